@@ -1,0 +1,12 @@
+pub mod ApartLaws
+pub mod ExchangeLaws
+pub mod KeyMapLaws
+pub mod Lens
+pub mod MachineLaws
+pub mod MakeLaws
+pub mod OpenLaws
+pub mod RunLaws
+pub mod SizeLaws
+pub mod SlotLaws
+pub mod ViewLaws
+pub mod WantedLaws

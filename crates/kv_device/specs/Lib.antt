@@ -1,0 +1,10 @@
+pub mod Apart
+pub mod Bytes
+pub mod Calls
+pub mod Exchange
+pub mod Machine
+pub mod MapDevice
+pub mod Objects
+pub mod Plans
+pub mod Run
+pub mod Sizes

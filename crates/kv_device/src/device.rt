@@ -1,0 +1,102 @@
+// A device that keeps objects, with transactions.
+ghost use Rattle.std.specs.Prelude.{◌≡◌, ◌≤◌, ◌<◌, ◌+◌, ◌-◌, ◌^◌, ℕ, min, IfOk, OnOk, IfErr};
+ghost use Rattle.kv_device.specs.Machine.{Machine, with_most_cuts, with_most_faults};
+ghost use Rattle.kv_device.specs.Calls.{BeginDone, BeginFault, GetDone, ReadFault, SetDone, SetFault, DeleteDone, DeleteFault, IterateDone, EndDone, EndFault, AbortDone, AbortFault, WorkDone, WorkFault, IsSound, Ages, set_ages};
+
+use crate::DeviceFault;
+use kv_base::{Key, Pairs, Value};
+use std::alloc::Global;
+
+#[derive(Clone, Copy, Debug, PartialEq, Eq)]
+pub struct TxId(pub u32);
+
+pub trait Device {
+    /// The device as a machine.
+    ghost machine: { Self → Machine };
+
+    /// The greatest number that it has written.
+    ghost age: { Self → ℕ };
+
+    fn limits(&self) -> (u32, u32)
+        ensures keys { result.0 ≡ (machine self.now).room_keys }
+        ensures pages { result.1 ≡ (machine self.now).room_pages };
+
+    /// Opens the lowest free transaction.
+    fn begin(&mut self) -> Result<TxId, DeviceFault>
+        requires { age self.old < 2 ^ 63 - 2 ^ 38 }
+        ensures ok { IfOk result (λ tx. BeginDone (machine self.old) tx.0 (machine self.new)) }
+        ensures err { IfErr result (λ fault. BeginFault (machine self.old) fault (machine self.new)) }
+        ensures age { Ages (age self.old) (age self.new) 0 };
+
+    fn get(&mut self, alloc: Global, tx: TxId, key: &Key) -> Result<Option<Value>, DeviceFault>
+        requires { age self.old < 2 ^ 63 - 2 ^ 38 }
+        ensures ok { IfOk result (λ value. GetDone (machine self.old) tx.0 key.now value (machine self.new)) }
+        ensures err { IfErr result (λ fault. ReadFault (machine self.old) tx.0 fault (machine self.new)) }
+        ensures age { Ages (age self.old) (age self.new) 0 };
+
+    fn set(&mut self, alloc: Global, tx: TxId, key: &Key, value: &Value) -> Result<(), DeviceFault>
+        requires { age self.old < 2 ^ 63 - 2 ^ 38 }
+        ensures ok { OnOk result (SetDone (machine self.old) tx.0 key.now value.now (machine self.new)) }
+        ensures err { IfErr result (λ fault. SetFault (machine self.old) tx.0 key.now value.now fault (machine self.new)) }
+        ensures age { Ages (age self.old) (age self.new) (set_ages value.now) };
+
+    fn delete(&mut self, alloc: Global, tx: TxId, key: &Key) -> Result<(), DeviceFault>
+        requires { age self.old < 2 ^ 63 - 2 ^ 38 }
+        ensures ok { OnOk result (DeleteDone (machine self.old) tx.0 key.now (machine self.new)) }
+        ensures err { IfErr result (λ fault. DeleteFault (machine self.old) tx.0 key.now fault (machine self.new)) }
+        ensures age { Ages (age self.old) (age self.new) 0 };
+
+    /// By rising keys, the first pairs from a key on whose keys begin with a prefix.
+    fn iterate(
+        &mut self,
+        alloc: Global,
+        tx: TxId,
+        from: &Key,
+        prefix: &Key,
+        at_most: u32,
+    ) -> Result<Pairs, DeviceFault>
+        requires { age self.old < 2 ^ 63 - 2 ^ 38 }
+        ensures ok { IfOk result (λ pairs. IterateDone (machine self.old) tx.0 from.now prefix.now at_most pairs (machine self.new)) }
+        ensures err { IfErr result (λ fault. ReadFault (machine self.old) tx.0 fault (machine self.new)) }
+        ensures age { Ages (age self.old) (age self.new) 0 };
+
+    fn end(&mut self, alloc: Global, tx: TxId) -> Result<(), DeviceFault>
+        requires { age self.old < 2 ^ 63 - 2 ^ 38 }
+        ensures ok { OnOk result (EndDone (machine self.old) tx.0 (machine self.new)) }
+        ensures err { IfErr result (λ fault. EndFault (machine self.old) tx.0 fault (machine self.new)) }
+        ensures age { Ages (age self.old) (age self.new) (2 ^ 16) };
+
+    fn abort(&mut self, tx: TxId) -> Result<(), DeviceFault>
+        requires { age self.old < 2 ^ 63 - 2 ^ 38 }
+        ensures ok { OnOk result (AbortDone (machine self.old) tx.0 (machine self.new)) }
+        ensures err { IfErr result (λ fault. AbortFault (machine self.old) tx.0 fault (machine self.new)) }
+        ensures age { Ages (age self.old) (age self.new) 0 };
+
+    fn work(&mut self, alloc: Global, operations: u32) -> Result<(), DeviceFault>
+        requires { age self.old < 2 ^ 63 - 2 ^ 38 }
+        ensures ok { OnOk result (WorkDone (machine self.old) (machine self.new)) }
+        ensures err { IfErr result (λ fault. WorkFault (machine self.old) fault (machine self.new)) }
+        ensures age { Ages (age self.old) (age self.new) (2 ^ 20) };
+
+    ghost sound: { (device : Self) → IsSound (machine device) };
+}
+
+/// A device that can be told when to fail.
+pub trait PlannedDevice: Device {
+    /// Power is cut in the n-th operation from now. The changes of an `end` that is cut are lost
+    /// with `how` 0, kept with 3, and either with 1 and 2.
+    fn plan_cut(&mut self, n: u32, how: u8)
+        requires n { 1 ≤ n }
+        requires how { how ≤ 3 }
+        ensures planned { Self.machine self.new ≡ with_most_cuts (Self.machine self.old) }
+        ensures age { Self.age self.new ≡ Self.age self.old };
+
+    /// The n-th operation from now of that kind fails: 0 reading, 1 programming, 2 erasing.
+    fn plan_fail(&mut self, kind: u8, n: u32)
+        requires n { 1 ≤ n }
+        requires kind { kind ≤ 2 }
+        ensures planned { Self.machine self.new ≡ with_most_faults (Self.machine self.old) (Self.machine self.new).most_faults }
+        ensures fewest { (Self.machine self.old).faults ≤ (Self.machine self.new).most_faults }
+        ensures most { (Self.machine self.new).most_faults ≤ min ((Self.machine self.old).faults + 1) (2 ^ 64 - 1) }
+        ensures age { Self.age self.new ≡ Self.age self.old };
+}
