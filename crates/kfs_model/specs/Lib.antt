@@ -1,0 +1,11 @@
+pub mod Ladder
+pub mod Tree
+pub mod Desk
+pub mod Step
+pub mod Change
+pub mod Life
+pub mod Script
+pub mod AnswerText
+pub mod ScriptRows
+pub mod Rows
+pub mod Spelled

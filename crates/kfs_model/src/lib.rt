@@ -1,0 +1,90 @@
+//! The definitions of the file system's plain tree, and the types that they speak of.
+#![tactic(auto)]
+
+ghost use Rattle.std.specs.Prelude.{◌≡◌, ◌∷◌, []};
+
+mod command;
+
+pub use command::{BareCommand, Command, NumberCommand, PathCommand};
+use kfs_path::{Call, Reply};
+use kv_base::{Damage, Text};
+use std::alloc::AllocError;
+
+/// A directory, or a file with its bytes.
+#[derive(Debug, PartialEq, Eq, Drop)]
+pub enum Node {
+    Dir,
+    File(Text),
+}
+
+/// An open file: its node, the offset in bytes, and what may be done with it.
+#[derive(Clone, Copy, Debug, PartialEq, Eq)]
+pub struct Description {
+    pub node: u64,
+    pub offset: u64,
+    pub read: bool,
+    pub write: bool,
+    pub append: bool,
+}
+
+/// A line of a script. `Cut` plans a cut of power in the n-th operation from now that leaves it
+/// undone (0), in part (1), mixed (2) or done (3); `Fail` a fault of the n-th read (0), program (1)
+/// or erase (2).
+#[derive(Debug, PartialEq, Eq, Drop)]
+pub enum Line {
+    Format(u16),
+    Mount,
+    Cut { n: u32, how: u8 },
+    Fail { kind: u8, n: u32 },
+    Call(Call),
+}
+
+/// The answer to a line.
+#[derive(Debug, Drop)]
+pub enum Answer {
+    Reply(Reply),
+    Mounted(u64),
+    Refused(Damage),
+}
+
+impl Clone for Node {
+    ghost is_clone = { λ x y. y ≡ x };
+
+    fn clone(&self) -> Result<Node, AllocError> {
+        match self {
+            Node::Dir => Ok(Node::Dir),
+            Node::File(bytes) => Ok(Node::File(bytes.clone()?)),
+        }
+    }
+}
+
+ghost use Rattle.kfs_model.specs.Rows.{replies_from, first};
+
+/// A directory that is made is listed.
+pub fn made_directory_is_listed()
+    ensures { replies_from 0 first (Call.Mkdir (47 ∷ 97 ∷ []) ∷ Call.List (47 ∷ []) ∷ []) ≡ Reply.Done ∷ Reply.Names ((97 ∷ []) ∷ []) ∷ [] }
+{}
+
+ghost use Rattle.kfs_model.specs.Tree.{place_cmp, moved, NoneBelow};
+ghost use Rattle.std.specs.Prelude.{List, ℕ, map, ◌++◌};
+ghost use Rattle.std.specs.FinMap.{find};
+
+/// What lay below the old place lies below the new one, under the same number.
+pub fn rename_moves()
+    ensures { (old new tail : List (List ℕ)) (es : List (List (List ℕ) × ℕ)) → NoneBelow new es → find place_cmp (new ++ tail) (map (moved old new) es) ≡ find place_cmp (old ++ tail) es }
+{}
+
+ghost use Rattle.std.specs.Prelude.{Option, Some, true, ◌<◌, ◌^◌};
+ghost use Rattle.kfs_model.specs.declared.Line.{Line};
+ghost use Rattle.kfs_model.specs.Script.{IsLine, is_built, line_of, number_to};
+ghost use Rattle.kfs_model.specs.Spelled.{spelled, command_at, HasBytes};
+
+/// Each line of a command in the grammar is read from its spelling.
+pub fn spelled_lines_are_read()
+    ensures { (line : Line) → IsLine line → HasBytes line → is_built (command_at line) ≡ true → line_of (spelled line) ≡ Some line }
+{}
+
+/// A number of a line has one spelling.
+pub fn numbers_have_one_spelling()
+    ensures { (limit : ℕ) (v w : List ℕ) → limit < 2 ^ 64 → (n : ℕ) → number_to limit v ≡ Some n → number_to limit w ≡ Some n → v ≡ w }
+{}
