@@ -1,0 +1,12 @@
+pub mod Charging
+pub mod Desks
+pub mod Fitting
+pub mod Keeping
+pub mod Lookups
+pub mod Making
+pub mod Moves
+pub mod Outcomes
+pub mod Quiet
+pub mod Renamed
+pub mod Sound
+pub mod Unnaming

@@ -1,0 +1,79 @@
+//! Laws of the file system's definitions. The functions do nothing: their contracts are the laws.
+#![tactic(auto)]
+
+ghost use Rattle.kfs_laws.specs.Laws.{ErrorsChangeNothing, NextRisesByOneAtMost, LookingLeavesTheTree, NoChangeLeavesTheTree, NamedIsATree, SweptIsATree, NewContentIsATree, NewNodeIsATree, UnnamingIsATree, RenameIsATree, NewNodeIsCharged, NewContentIsCharged, WhatGoesIsChargedNoMore, FitsIsTheMost, EachCallKeepsTheDesk};
+
+/// An error changes nothing, and a reply that is an error says so.
+pub fn errors_change_nothing()
+    ensures { ErrorsChangeNothing }
+{}
+
+/// The next number never falls, and rises by one at most.
+pub fn next_number_rises_by_one_at_most()
+    ensures { NextRisesByOneAtMost }
+{}
+
+/// A call that looks, commits or works in spare time leaves the tree.
+pub fn looking_leaves_the_tree()
+    ensures { LookingLeavesTheTree }
+{}
+
+/// A call that is no change leaves the tree.
+pub fn no_change_leaves_the_tree()
+    ensures { NoChangeLeavesTheTree }
+{}
+
+/// Without its nameless nodes a tree is a tree, the same with those of them left out, and loses nothing more.
+pub fn named_is_a_tree()
+    ensures { NamedIsATree }
+{}
+
+/// Without the nodes that neither a place nor a description names a tree is a tree.
+pub fn swept_is_a_tree()
+    ensures { SweptIsATree }
+{}
+
+/// A file's new content, within the greatest length, leaves a tree.
+pub fn new_content_is_a_tree()
+    ensures { NewContentIsATree }
+{}
+
+/// A new node at a free place in a directory leaves a tree, under the next number.
+pub fn new_node_is_a_tree()
+    ensures { NewNodeIsATree }
+{}
+
+/// A place that nothing lies below, without its name, leaves a tree.
+pub fn unnaming_is_a_tree()
+    ensures { UnnamingIsATree }
+{}
+
+/// A place and all below it, moved to a free place in a directory, leave a tree.
+pub fn rename_is_a_tree()
+    ensures { RenameIsATree }
+{}
+
+/// A new node is charged 2 and its chunks.
+pub fn new_node_is_charged()
+    ensures { NewNodeIsCharged }
+{}
+
+/// A file's new content changes the charge by the difference of its chunks.
+pub fn new_content_is_charged()
+    ensures { NewContentIsCharged }
+{}
+
+/// Each node that goes takes 2 and its chunks off the charge, and names cost nothing.
+pub fn what_goes_is_charged_no_more()
+    ensures { WhatGoesIsChargedNoMore }
+{}
+
+/// The number of bytes that fit is the greatest number that does.
+pub fn fits_is_the_most()
+    ensures { FitsIsTheMost }
+{}
+
+/// A desk with nothing open is a desk, and each call leaves one.
+pub fn each_call_keeps_the_desk()
+    ensures { EachCallKeepsTheDesk }
+{}

@@ -1,0 +1,10 @@
+pub mod Fails
+pub mod Growing
+pub mod Putting
+pub mod Entries
+pub mod Keeping
+pub mod Fitting
+pub mod Parts
+pub mod Gaps
+pub mod Opened
+pub mod Writable

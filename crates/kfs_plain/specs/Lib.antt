@@ -1,0 +1,5 @@
+pub mod Fault
+pub mod Gives
+pub mod Tables
+pub mod Renaming
+pub mod Plain

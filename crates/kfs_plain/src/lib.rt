@@ -1,0 +1,18 @@
+//! A tree of files in memory, whose step is the definition's.
+#![tactic(auto)]
+
+mod contents;
+mod fault;
+mod opening;
+mod reading;
+mod removing;
+mod room;
+mod tables;
+mod telling;
+#[cfg(test)]
+mod tests;
+mod tree;
+mod walking;
+mod writing;
+
+pub use tree::{PlainTree, Totals};
