@@ -1,0 +1,4 @@
+pub mod Forms
+pub mod KeyLaws
+pub mod RecordLaws
+pub mod Spelling

@@ -1,0 +1,12 @@
+pub mod AllNamed
+pub mod Charging
+pub mod ChunkKeys
+pub mod Content
+pub mod Counting
+pub mod Dropping
+pub mod Fresh
+pub mod KeysApart
+pub mod Lookups
+pub mod Making
+pub mod Once
+pub mod Unnaming
