@@ -1,0 +1,23 @@
+use Rattle.std.proofs.Common.{◌≡◌, ◌<◌, ◌≤◌, ◌+◌, ◌-◌, ◌%◌, ◌/◌, ◌++◌, ◌∙◌, ap, arith, min, List, ℕ}
+use Rattle.kfs_tx.specs.Run.{Run, seen}
+use Rattle.kfs_file.specs.Contents.{piece_at, piece_in}
+use Rattle.kfs_file.proofs.ReadingPieces.{reads_on}
+use Rattle.kfs_file.proofs.reading.read_at.Goals as goal
+
+pub loop-place-preserved : goal.loop-place-preserved
+loop-place-preserved g c =
+    let before = c.loop-place.invariant in
+    let lt : c.loop-place.place < c.min-end.result = c.loop-place-test.true in
+    let least = c.min-some.ensures in
+    let end = c.min-end.ensures in
+    let first = before.age in
+    let then = c.in_ok-read_piece.ensures.age in
+    record {
+      from = omega (arith, least);
+      within = omega (arith, least, lt);
+      reads = reads_on (seen c.args.run.now.run) c.args.node c.args.size c.args.offset c.min-end.result c.loop-place.place c.min-some.result c.loop-place.text c.read_piece.new.text before.reads
+          (c.in_ok-read_piece.ensures.ok ∙ ap (λ (r : Run). c.loop-place.text ++ piece_at (piece_in (seen r) c.args.node (c.loop-place.place / 4096)) (c.loop-place.place % 4096) c.min-some.result) before.same)
+          before.from lt (omega (arith, end)) c.requires.size least;
+      same = c.in_ok-read_piece.ensures.same ∙ before.same;
+      age = record { device = record { later = omega (arith, first.device.later, then.device.later); bounded = omega (arith, first.device.bounded, then.device.bounded) }; whole = record { later = omega (arith, first.whole.later, then.whole.later); bounded = omega (arith, first.whole.bounded, then.whole.bounded) } };
+    }

@@ -1,0 +1,91 @@
+ghost use Rattle.std.specs.Prelude.{◌≡◌, ◌<◌, ◌≤◌, ◌+◌, ◌-◌, ◌^◌, ◌++◌, IfOk, OnOk, IfErr};
+ghost use Rattle.kfs_tx.specs.Run.{Aged, GetFault, age_of, seen};
+ghost use Rattle.kfs_file.specs.Contents.{ReadsFile, piece_at, piece_in};
+
+use kfs_objects::chunk_key;
+use kfs_tx::Running;
+use kv_base::{Memory, Text};
+use kv_device::{Device, DeviceFault};
+use std::alloc::Global;
+
+/// Adds so many bytes of a chunk's object from a place on. What it lacks is zero.
+fn append_piece(
+    alloc: Global,
+    text: &mut Text,
+    piece: &[u8],
+    start: usize,
+    count: usize,
+) -> Result<(), Memory>
+    requires { start + count ≤ 4096 }
+    ensures { OnOk result (text.new ≡ text.old ++ piece_at piece.now start count) }
+{
+    let mut bytes = Vec::from_slice(alloc, piece)?;
+    if bytes.len() < start + count {
+        bytes.resize(start + count, 0)?;
+    }
+    text.append(&bytes[start..start + count])?;
+    Ok(())
+}
+
+/// Adds so many bytes of one chunk from a place on.
+fn read_piece<D: Device>(
+    alloc: Global,
+    run: &mut Running<D>,
+    node: u64,
+    chunk: u32,
+    start: usize,
+    count: usize,
+    text: &mut Text,
+) -> Result<(), DeviceFault>
+    requires age { age_of run.old < 2 ^ 63 - 2 ^ 38 }
+    requires fits { start + count ≤ 4096 }
+    ensures ok { OnOk result (text.new ≡ text.old ++ piece_at (piece_in (seen run.old.run) node chunk) start count) }
+    ensures same { OnOk result (run.new.run ≡ run.old.run) }
+    ensures err { IfErr result (λ fault. GetFault run.old.run fault run.new.run.machine) }
+    ensures age { Aged run.old run.new 0 }
+{
+    let key = chunk_key(alloc, node, chunk)?;
+    match run.get(alloc, &key)? {
+        None => append_piece(alloc, text, &[], start, count)?,
+        Some(value) => append_piece(alloc, text, value.bytes(), start, count)?,
+    }
+    Ok(())
+}
+
+/// So many bytes from an offset on of a file of so many bytes, as far as there are. No chunk object
+/// of the node reaches past the file's length.
+pub fn read_at<D: Device>(
+    alloc: Global,
+    run: &mut Running<D>,
+    node: u64,
+    size: u64,
+    offset: u64,
+    count: u32,
+) -> Result<Text, DeviceFault>
+    requires age { age_of run.old < 2 ^ 63 - 2 ^ 39 }
+    requires size { size ≤ 2 ^ 20 }
+    ensures reads { IfOk result (λ text. ReadsFile (seen run.old.run) node size offset count text) }
+    ensures same { OnOk result (run.new.run ≡ run.old.run) }
+    ensures err { IfErr result (λ fault. GetFault run.old.run fault run.new.run.machine) }
+    ensures age { Aged run.old run.new 0 }
+{
+    let end = size.min(offset.saturating_add(count as u64));
+    let mut text = Text::new(alloc, &[])?;
+    let mut place = offset;
+    while place < end {
+        let chunk = (place / 4096) as u32;
+        let start = place % 4096;
+        let some = (4096 - start).min(end - place);
+        read_piece(
+            alloc,
+            run,
+            node,
+            chunk,
+            start as usize,
+            some as usize,
+            &mut text,
+        )?;
+        place += some;
+    }
+    Ok(text)
+}

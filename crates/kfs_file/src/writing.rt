@@ -1,0 +1,118 @@
+ghost use Rattle.std.specs.Prelude.{◌≡◌, ◌<◌, ◌≤◌, ◌+◌, ◌-◌, ◌*◌, ◌^◌, max, length, IfOk, OnOk, IfErr};
+ghost use Rattle.std.specs.FinMap as objects;
+ghost use Rattle.kfs_objects.specs.Keys.{chunk_key};
+ghost use Rattle.kfs_model.specs.Tree.{written};
+ghost use Rattle.kfs_tx.specs.Run.{Aged, GetFault, age_of, seen};
+ghost use Rattle.kfs_file.specs.Contents.{ChangesAtMost, Fails, PieceFault, WritesFile, piece_in, touched, with_piece};
+
+use kfs_objects::chunk_key;
+use kfs_tx::Running;
+use kv_base::{Memory, Value};
+use kv_device::{Device, DeviceFault};
+use std::alloc::Global;
+
+/// The bytes of a chunk.
+const CHUNK: usize = 4096;
+
+/// The bytes with the given ones at a place. What lies between is zero.
+fn overwritten(alloc: Global, old: &[u8], start: usize, given: &[u8]) -> Result<Vec<u8>, Memory>
+    requires { start + length given.now ≤ 4096 }
+    ensures { IfOk result (λ bytes. bytes.items ≡ written old.now start given.now) }
+{
+    let mut bytes = Vec::from_slice(alloc, old)?;
+    if bytes.len() < start {
+        bytes.resize(start, 0)?;
+    }
+    bytes.truncate(start);
+    bytes.extend_from_slice(given)?;
+    if start + given.len() < old.len() {
+        bytes.extend_from_slice(&old[start + given.len()..])?;
+    }
+    Ok(bytes)
+}
+
+fn value_of(alloc: Global, bytes: &[u8]) -> Result<Value, Memory>
+    ensures { IfOk result (λ value. value ≡ bytes.now) }
+{
+    match Value::new(alloc, bytes) {
+        Ok(value) => Ok(value),
+        Err(_) => Err(Memory),
+    }
+}
+
+/// A chunk's object, with the given bytes at a place.
+fn new_piece<D: Device>(
+    alloc: Global,
+    run: &mut Running<D>,
+    node: u64,
+    chunk: u32,
+    start: usize,
+    given: &[u8],
+) -> Result<Value, DeviceFault>
+    requires age { age_of run.old < 2 ^ 63 - 2 ^ 38 }
+    requires fits { start + length given.now ≤ 4096 }
+    ensures gives { IfOk result (λ value. value ≡ written (piece_in (seen run.old.run) node chunk) start given.now) }
+    ensures same { OnOk result (run.new.run ≡ run.old.run) }
+    ensures err { IfErr result (λ fault. GetFault run.old.run fault run.new.run.machine) }
+    ensures age { Aged run.old run.new 0 }
+{
+    let key = chunk_key(alloc, node, chunk)?;
+    let bytes = match run.get(alloc, &key)? {
+        None => overwritten(alloc, &[], start, given)?,
+        Some(old) => overwritten(alloc, old.bytes(), start, given)?,
+    };
+    Ok(value_of(alloc, &bytes)?)
+}
+
+/// Writes some bytes of one chunk.
+fn write_piece<D: Device>(
+    alloc: Global,
+    run: &mut Running<D>,
+    node: u64,
+    chunk: u32,
+    start: usize,
+    given: &[u8],
+) -> Result<(), DeviceFault>
+    requires age { age_of run.old < 2 ^ 63 - 2 ^ 38 }
+    requires fits { start + length given.now ≤ 4096 }
+    ensures ok { OnOk result (run.new.run ≡ with_piece run.old.run node chunk start given.now) }
+    ensures err { IfErr result (λ fault. PieceFault run.old.run node chunk start given.now fault run.new.run.machine) }
+    ensures age { Aged run.old run.new (2 ^ 16) }
+{
+    let value = new_piece(alloc, run, node, chunk, start, given)?;
+    let key = chunk_key(alloc, node, chunk)?;
+    run.set(alloc, &key, &value)?;
+    Ok(())
+}
+
+/// Writes the bytes from an offset on into a file of so many bytes, and gives its new length. What
+/// lies between its end and the offset is zero. No chunk object of the node reaches past the length.
+pub fn write_at<D: Device>(
+    alloc: Global,
+    run: &mut Running<D>,
+    node: u64,
+    size: u64,
+    offset: u64,
+    bytes: &[u8],
+) -> Result<u64, DeviceFault>
+    requires age { age_of run.old < 2 ^ 63 - 2 ^ 39 }
+    requires fits { offset + length bytes.now ≤ 2 ^ 20 }
+    requires size { size ≤ 2 ^ 20 }
+    ensures writes { OnOk result (WritesFile run.old.run node offset bytes.now run.new.run) }
+    ensures size { IfOk result (λ n. n ≡ max size (offset + length bytes.now)) }
+    ensures keys { OnOk result (ChangesAtMost run.old.run (touched offset (length bytes.now)) run.new.run) }
+    ensures err { IfErr result (λ fault. Fails run.old.run (touched offset (length bytes.now)) fault run.new.run.machine) }
+    ensures age { Aged run.old run.new (2 ^ 16 * touched offset (length bytes.now)) }
+{
+    let mut done = 0;
+    while done < bytes.len() {
+        let place = offset + done as u64;
+        let chunk = (place / 4096) as u32;
+        let start = (place % 4096) as usize;
+        let rest = &bytes[done..];
+        let count = (CHUNK - start).min(rest.len());
+        write_piece(alloc, run, node, chunk, start, &rest[..count])?;
+        done += count;
+    }
+    Ok(size.max(offset + bytes.len() as u64))
+}

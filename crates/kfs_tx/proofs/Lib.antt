@@ -1,0 +1,5 @@
+pub mod Alone
+pub mod Seeing
+pub mod Falling
+pub mod Causes
+pub mod Opening

@@ -1,0 +1,50 @@
+-- The states' codes, by which proofs tell them apart.
+use Rattle.std.specs.Prelude.{ℕ, Bool, List, Option, refl}
+use Rattle.std.specs.Coded.{Coded, code_by, coded×, coded_ℕ, coded_bool, coded_list, coded_option}
+use Rattle.std.specs.FinMap as objects
+use Rattle.kv_device.specs.Objects.{Objects, Changes}
+use Rattle.kv_device.specs.Machine.{Machine, Transactions}
+use Rattle.kfs_tx.specs.Run.{Run, RunState}
+
+abbrev pub objects_code : Coded Objects
+objects_code = objects.code (coded_list coded_ℕ) (coded_list coded_ℕ)
+
+abbrev pub changes_code : Coded Changes
+changes_code = objects.code (coded_list coded_ℕ) (coded_option (coded_list coded_ℕ))
+
+abbrev pub transactions_code : Coded Transactions
+transactions_code = coded_list (coded_option changes_code)
+
+-- the counts, their bounds and the rooms
+abbrev pub Counts : Type 0
+Counts = ℕ × (ℕ × (ℕ × (ℕ × (ℕ × ℕ))))
+
+abbrev pub counts_code : Coded Counts
+counts_code = coded× coded_ℕ (coded× coded_ℕ (coded× coded_ℕ (coded× coded_ℕ (coded× coded_ℕ coded_ℕ))))
+
+abbrev pub machine_code : Coded Machine
+machine_code =
+    code_by (Bool × (Objects × (Transactions × Counts))) (coded× coded_bool (coded× objects_code (coded× transactions_code counts_code)))
+    (λ m. (m.up, (m.stable, (m.pending, (m.cuts, (m.faults, (m.most_cuts, (m.most_faults, (m.room_keys, m.room_pages)))))))))
+    (λ p. record {
+      up = p.0;
+      stable = p.1.0;
+      pending = p.1.1.0;
+      cuts = p.1.1.1.0;
+      faults = p.1.1.1.1.0;
+      most_cuts = p.1.1.1.1.1.0;
+      most_faults = p.1.1.1.1.1.1.0;
+      room_keys = p.1.1.1.1.1.1.1.0;
+      room_pages = p.1.1.1.1.1.1.1.1;
+    })
+    (λ _. refl)
+
+abbrev pub run_code : Coded Run
+run_code =
+    code_by (Machine × (ℕ × (ℕ × (ℕ × (ℕ × ℕ))))) (coded× machine_code (coded× coded_ℕ (coded× coded_ℕ (coded× coded_ℕ (coded× coded_ℕ coded_ℕ)))))
+    (λ r. (r.machine, (r.tx, (r.changes, (r.next, (r.since, r.weight))))))
+    (λ p. record { machine = p.0; tx = p.1.0; changes = p.1.1.0; next = p.1.1.1.0; since = p.1.1.1.1.0; weight = p.1.1.1.1.1 })
+    (λ _. refl)
+
+abbrev pub state_code : Coded RunState
+state_code = code_by (Run × ℕ) (coded× run_code coded_ℕ) (λ s. (s.run, s.device_age)) (λ p. record { run = p.0; device_age = p.1 }) (λ _. refl)
