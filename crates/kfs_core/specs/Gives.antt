@@ -1,0 +1,34 @@
+-- What a function returned, seen by view, is what the definition gives, unless the device or memory failed.
+use Rattle.std.specs.Prelude.{◌≡◌, Result, Ok, Err}
+use Rattle.kv_device.specs.declared.fault.DeviceFault.TheVariants.{Memory}
+use Rattle.kfs_path.specs.declared.call.Errno.{Errno}
+use Rattle.kfs_tx.specs.Run.{Run, GetFault, CommitFault}
+use Rattle.kfs_core.specs.declared.fault.CoreFault.{CoreFault}
+use Rattle.kfs_core.specs.declared.fault.CoreFault.TheVariants.{No, Device}
+
+abbrev pub Fails : {Y : Type 0} → CoreFault → Result Y Errno → Type 0
+Fails (Device fault) given = Unit {0}
+Fails (No e) given = given ≡ Err e
+
+abbrev pub Gives : {X Y : Type 0} → (X → Y) → Result X CoreFault → Result Y Errno → Type 0
+Gives view (Ok x) given = given ≡ Ok (view x)
+Gives view (Err e) given = Fails e given
+
+-- a call that only reads: it leaves the run, or the device or memory failed
+abbrev pub LeavesAtFault : Run → CoreFault → Run → Type 0
+LeavesAtFault old (No e) new = new ≡ old
+LeavesAtFault old (Device fault) new = GetFault old fault new.machine
+
+abbrev pub Leaves : {X : Type 0} → Run → Result X CoreFault → Run → Type 0
+Leaves old (Ok x) new = new ≡ old
+Leaves old (Err e) new = LeavesAtFault old e new
+
+-- a commit refuses by no error of its own
+abbrev pub CommitFails : Run → Run → CoreFault → Type 0
+CommitFails old new (No e) = ⊥
+CommitFails old new (Device fault) = CommitFault old fault new.machine
+
+-- of the device's causes only want of memory
+abbrev pub IsOwn : CoreFault → Type 0
+IsOwn (No e) = Unit {0}
+IsOwn (Device fault) = fault ≡ Memory

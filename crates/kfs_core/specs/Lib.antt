@@ -1,0 +1,9 @@
+pub mod Fault
+pub mod Gives
+pub mod Flat
+pub mod Spot
+pub mod Making
+pub mod Stands
+pub mod Counted
+pub mod Core
+pub mod Starting

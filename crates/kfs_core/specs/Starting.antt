@@ -1,0 +1,66 @@
+-- What a mount finds and leaves, and what a format leaves.
+use Rattle.std.specs.Prelude.{ℕ, ◌≡◌, ◌<◌, ◌^◌, ◌⊎◌, Some}
+use Rattle.std.specs.Option.{option_and_then}
+use Rattle.std.specs.FinMap as objects
+use Rattle.kv_device.specs.declared.fault.DeviceFault.{DeviceFault}
+use Rattle.kv_device.specs.declared.fault.DeviceFault.TheVariants.{Off, Failed}
+use Rattle.kv_device.specs.Objects.{Objects}
+use Rattle.kv_device.specs.Machine.{Machine, none_open}
+use Rattle.kv_device.specs.Calls.{Rises}
+use Rattle.kfs_objects.specs.declared.records.Super.{Super}
+use Rattle.kfs_objects.specs.Keys.{super_key, inode_key}
+use Rattle.kfs_objects.specs.Records.{super_value, inode_value, read_super}
+use Rattle.kfs_tx.specs.Run.{SameBounds, CausedAlone, started, opened}
+use Rattle.kfs_core.specs.declared.fault.HostFault.{HostFault}
+use Rattle.kfs_core.specs.declared.fault.HostFault.TheVariants.{Damaged, Cut, Eio, NoMem}
+use Rattle.kfs_core.specs.Counted.{charge_in}
+use Rattle.kfs_core.specs.Core.{KfsState, run_in}
+
+-- a fault of the device, as a mount tells it
+abbrev pub host_fault : DeviceFault → HostFault
+host_fault Off = Cut
+host_fault Failed = Eio
+host_fault fault = NoMem
+
+-- which count rose, by the fault of a mount
+abbrev pub HostCause : Machine → HostFault → Machine → Type 0
+HostCause old (Damaged damage) new = ⊥
+HostCause old Cut new = Rises old.cuts new.cuts old.most_cuts × (new.faults ≡ old.faults)
+HostCause old Eio new = Rises old.faults new.faults old.most_faults × (new.cuts ≡ old.cuts)
+HostCause old NoMem new = (new.cuts ≡ old.cuts) × (new.faults ≡ old.faults)
+
+-- a mount failed so, and left what the device holds
+pub record NotMounted (old : Machine) (fault : HostFault) (new : Machine) : Type 0 where
+  pub cause : HostCause old fault new
+  pub stable : new.stable ≡ old.stable
+  pub bounds : SameBounds old new
+
+-- a mount began the first transaction with the numbers of the super that is stored, and counted the charge
+pub record Started (old : Machine) (new : KfsState) : Type 0 where
+  pub head : option_and_then read_super (objects.get old.stable super_key) ≡ Some ((run_in new).changes, (run_in new).next)
+  pub run : run_in new ≡ started old (run_in new).changes (run_in new).next
+  pub keys : new.keys ≡ old.room_keys
+  pub pages : new.pages ≡ old.room_pages
+  pub charge : new.charge ≡ charge_in old.stable
+  pub changes : (run_in new).changes < 2 ^ 62
+  pub next : (run_in new).next < 2 ^ 62
+
+-- the same, of this super
+pub record Starts (old : Machine) (head : Super) (new : KfsState) : Type 0 where
+  pub run : run_in new ≡ opened old head
+  pub keys : new.keys ≡ old.room_keys
+  pub pages : new.pages ≡ old.room_pages
+  pub charge : new.charge ≡ charge_in old.stable
+
+-- the objects of a root alone
+abbrev pub first_objects : Objects
+first_objects = objects.insert (objects.insert objects.empty (inode_key 1) (inode_value 1 0)) super_key (super_value 0 2)
+
+abbrev pub formatted : Machine → Machine
+formatted m = record m { stable = first_objects; pending = none_open }
+
+-- a format failed: nothing is stored, or all
+pub record NotFormatted (old : Machine) (fault : DeviceFault) (new : Machine) : Type 0 where
+  pub cause : CausedAlone old fault new
+  pub stable : (new.stable ≡ objects.empty) ⊎ (new.stable ≡ first_objects)
+  pub bounds : SameBounds old new

@@ -1,0 +1,265 @@
+// The tree's calls, over a running transaction that shows the tree.
+ghost use Rattle.std.specs.Prelude.{◌≡◌, ◌≤◌, ◌<◌, ◌+◌, ◌-◌, ◌^◌, min, true, All, OnOk, IfOk, IfErr};
+ghost use Rattle.kv_device.specs.Machine.{none_open, with_most_cuts, with_most_faults};
+ghost use Rattle.kv_device.specs.Calls.{Ages};
+ghost use Rattle.kfs_objects.specs.Keys.{IsNamed};
+ghost use Rattle.kfs_tx.specs.Run.{age_of, Aged, seen, committed};
+ghost use Rattle.kfs_core.specs.Core.{run_in, Stays};
+ghost use Rattle.kfs_core.specs.Flat.{lookup_in, inode_in, inode_at, children_at, place_at};
+ghost use Rattle.kfs_core.specs.Gives.{Gives, Leaves, CommitFails};
+ghost use Rattle.kfs_core.specs.Making.{MkdirDoes};
+ghost use Rattle.kfs_core.specs.Spot.{route_of};
+ghost use Rattle.kfs_core.specs.Starting.{Started, Starts, NotMounted};
+
+use crate::counting::charge;
+use crate::directories::{names, place};
+use crate::making::make_directory;
+use crate::mounting::{host_fault, is_low, stored_super};
+use crate::walking::{found, inode, parent, walk};
+use crate::{CoreFault, HostFault};
+use kfs_objects::{Inode, Super};
+use kfs_path::{Errno, Path};
+use kfs_tx::Running;
+use kv_base::Names;
+use kv_device::{Device, DeviceFault, PlannedDevice};
+use std::alloc::Global;
+use std::marker::Model;
+
+/// A mounted file system.
+#[derive(Drop)]
+pub struct Kfs<D: Device> {
+    run: Running<D>,
+    keys: u32,
+    pages: u32,
+    charge: u64,
+}
+
+impl<D: Device> Model for Kfs<D> {
+    ghost use Rattle.std.specs.Prelude.{◌≤◌};
+    ghost use Rattle.kfs_core.specs.Core.{KfsState, kfs_code};
+
+    ghost Value = { KfsState };
+
+    ghost coded = { kfs_code };
+
+    ghost view = { λ k. record { running = k.run; keys = k.keys; pages = k.pages; charge = k.charge } };
+
+    ghost invariant = { λ k. k.charge ≤ k.keys };
+}
+
+/// Begins the first transaction after this super, and counts the charge.
+fn start<D: Device>(alloc: Global, device: D, head: Super) -> Result<Kfs<D>, (D, HostFault)>
+    requires age { D.age device < 2 ^ 63 - 2 ^ 40 }
+    requires up { (D.machine device).up ≡ true }
+    requires idle { (D.machine device).pending ≡ none_open }
+    requires changes { head.changes < 2 ^ 62 }
+    requires next { head.next < 2 ^ 62 }
+    ensures ok { IfOk result (λ kfs. Starts (D.machine device) head kfs) }
+    ensures err { IfErr result (λ e. NotMounted (D.machine device) e.1 (D.machine e.0)) }
+    ensures age { IfOk result (λ kfs. Ages (D.age device) kfs.running.device_age 0) }
+    ensures age_left { IfErr result (λ e. Ages (D.age device) (D.age e.0) 0) }
+{
+    let (keys, pages) = device.limits();
+    match Running::open(alloc, device, head) {
+        Err((device, fault)) => Err((device, host_fault(&fault))),
+        Ok(mut run) => match charge(alloc, &mut run) {
+            Err(fault) => Err((run.into_device(), host_fault(&fault))),
+            Ok(charge) => {
+                if charge > keys as u64 {
+                    return Err((run.into_device(), HostFault::NoMem));
+                }
+                Ok(Kfs {
+                    run,
+                    keys,
+                    pages,
+                    charge,
+                })
+            }
+        },
+    }
+}
+
+impl<D: Device> Kfs<D> {
+    /// Goes on from the tree that the device holds.
+    pub fn mount(alloc: Global, device: D) -> Result<Kfs<D>, (D, HostFault)>
+        requires age { D.age device < 2 ^ 63 - 2 ^ 40 }
+        requires up { (D.machine device).up ≡ true }
+        requires idle { (D.machine device).pending ≡ none_open }
+        requires room { (D.machine device).room_keys ≤ 68544 }
+        ensures ok { IfOk result (λ kfs. Started (D.machine device) kfs) }
+        ensures err { IfErr result (λ e. NotMounted (D.machine device) e.1 (D.machine e.0)) }
+        ensures age { IfOk result (λ kfs. Ages (D.age device) kfs.running.device_age 0) }
+        ensures age_left { IfErr result (λ e. Ages (D.age device) (D.age e.0) 0) }
+    {
+        let mut device = device;
+        match stored_super(alloc, &mut device) {
+            Err(fault) => Err((device, host_fault(&fault))),
+            Ok(None) => Err((device, HostFault::NoMem)),
+            Ok(Some(head)) => {
+                if !is_low(&head) {
+                    return Err((device, HostFault::NoMem));
+                }
+                start(alloc, device, head)
+            }
+        }
+    }
+
+    /// The node that a path names.
+    pub fn lookup(&mut self, alloc: Global, path: &Path) -> Result<u64, CoreFault>
+        requires age { age_of self.old.running < 2 ^ 63 - 2 ^ 39 }
+        requires named { All IsNamed path.now.pieces }
+        ensures gives { Gives (λ n. n) result (lookup_in (seen (run_in self.old)) (route_of path.now)) }
+        ensures leaves { Leaves (run_in self.old) result (run_in self.new) }
+        ensures rest { Stays self.old self.new }
+        ensures age { Aged self.old.running self.new.running 0 }
+    {
+        look_up(alloc, &mut self.run, path)
+    }
+
+    /// The kind and the length of a node of the tree.
+    pub fn stat(&mut self, alloc: Global, node: u64) -> Result<Inode, CoreFault>
+        requires { age_of self.old.running < 2 ^ 63 - 2 ^ 39 }
+        ensures gives { Gives (λ i. (i.kind, i.length)) result (inode_at (inode_in (seen (run_in self.old)) node)) }
+        ensures leaves { Leaves (run_in self.old) result (run_in self.new) }
+        ensures rest { Stays self.old self.new }
+        ensures age { Aged self.old.running self.new.running 0 }
+    {
+        told(alloc, &mut self.run, node)
+    }
+
+    /// The names in a directory, sorted by bytes.
+    pub fn list(&mut self, alloc: Global, node: u64) -> Result<Names, CoreFault>
+        requires { age_of self.old.running < 2 ^ 63 - 2 ^ 39 }
+        ensures gives { Gives (λ names. names) result (children_at (seen (run_in self.old)) node (inode_in (seen (run_in self.old)) node)) }
+        ensures leaves { Leaves (run_in self.old) result (run_in self.new) }
+        ensures rest { Stays self.old self.new }
+        ensures age { Aged self.old.running self.new.running 0 }
+    {
+        children(alloc, &mut self.run, node)
+    }
+
+    /// Makes a directory, and answers its node.
+    pub fn mkdir(&mut self, alloc: Global, path: &Path) -> Result<u64, CoreFault>
+        requires age { age_of self.old.running < 2 ^ 63 - 2 ^ 39 }
+        requires named { All IsNamed path.now.pieces }
+        ensures node { IfOk result (λ node. node ≡ (run_in self.old).next) }
+        ensures does { MkdirDoes (run_in self.old) (place_at (seen (run_in self.old)) self.old.keys self.old.charge (route_of path.now)) result (run_in self.new) }
+        ensures charge { OnOk result (self.new.charge ≡ self.old.charge + 2) }
+        ensures same_charge { IfErr result (λ _. self.new.charge ≡ self.old.charge) }
+        ensures keys { self.new.keys ≡ self.old.keys }
+        ensures pages { self.new.pages ≡ self.old.pages }
+        ensures age { Aged self.old.running self.new.running (2 ^ 16) }
+    {
+        let spot = place(alloc, &mut self.run, self.keys, self.charge, path)?;
+        let parent = parent(&spot);
+        let name = spot.name.bytes();
+        let node = make_directory(alloc, &mut self.run, parent, name)?;
+        self.charge += 2;
+        Ok(node)
+    }
+
+    /// Commits the running transaction.
+    pub fn commit(&mut self, alloc: Global) -> Result<(), CoreFault>
+        requires { age_of self.old.running < 2 ^ 63 - 2 ^ 39 }
+        ensures ok { OnOk result (run_in self.new ≡ committed (run_in self.old)) }
+        ensures err { IfErr result (CommitFails (run_in self.old) (run_in self.new)) }
+        ensures rest { Stays self.old self.new }
+        ensures age { Aged self.old.running self.new.running (2 ^ 16) }
+    {
+        self.run.commit(alloc)?;
+        Ok(())
+    }
+
+    /// How many changes there were.
+    pub fn changes(&self) -> u64
+        ensures { result ≡ (run_in self.now).changes }
+    {
+        self.run.head().changes
+    }
+
+    pub fn into_device(self) -> D
+        ensures machine { D.machine result ≡ (run_in self).machine }
+        ensures age { D.age result ≡ self.running.device_age }
+    {
+        self.run.into_device()
+    }
+}
+
+impl<D: PlannedDevice> Kfs<D> {
+    /// Plans a cut of power in the n-th operation from now that programs or erases. It leaves the
+    /// operation undone with `how` 0, in part with 1, mixed with 2 and done with 3.
+    pub fn plan_cut(&mut self, n: u32, how: u8)
+        requires n { 1 ≤ n }
+        requires how { how ≤ 3 }
+        ensures planned { run_in self.new ≡ record (run_in self.old) { machine = with_most_cuts (run_in self.old).machine } }
+        ensures rest { Stays self.old self.new }
+        ensures age { self.new.running.device_age ≡ self.old.running.device_age }
+    {
+        self.run.plan_cut(n, how);
+    }
+
+    /// Plans a fault of the n-th read (kind 0), program (1) or erase (2) from now.
+    pub fn plan_fail(&mut self, kind: u8, n: u32)
+        requires n { 1 ≤ n }
+        requires kind { kind ≤ 2 }
+        ensures planned { run_in self.new ≡ record (run_in self.old) { machine = with_most_faults (run_in self.old).machine (run_in self.new).machine.most_faults } }
+        ensures fewest { (run_in self.old).machine.faults ≤ (run_in self.new).machine.most_faults }
+        ensures most { (run_in self.new).machine.most_faults ≤ min ((run_in self.old).machine.faults + 1) (2 ^ 64 - 1) }
+        ensures rest { Stays self.old self.new }
+        ensures age { self.new.running.device_age ≡ self.old.running.device_age }
+    {
+        self.run.plan_fail(kind, n);
+    }
+}
+
+fn look_up<D: Device>(alloc: Global, run: &mut Running<D>, path: &Path) -> Result<u64, CoreFault>
+    requires age { age_of run.old < 2 ^ 63 - 2 ^ 39 }
+    requires named { All IsNamed path.now.pieces }
+    ensures gives { Gives (λ n. n) result (lookup_in (seen run.old.run) (route_of path.now)) }
+    ensures leaves { Leaves run.old.run result run.new.run }
+    ensures age { Aged run.old run.new 0 }
+{
+    let spot = walk(alloc, run, path.pieces.items())?;
+    match found(alloc, run, spot.node)? {
+        None => Err(CoreFault::No(Errno::ENOENT)),
+        Some((node, it)) => {
+            if it.kind == 1 {
+                return Ok(node);
+            }
+            if path.trailing {
+                return Err(CoreFault::No(Errno::ENOTDIR));
+            }
+            Ok(node)
+        }
+    }
+}
+
+fn told<D: Device>(alloc: Global, run: &mut Running<D>, node: u64) -> Result<Inode, CoreFault>
+    requires { age_of run.old < 2 ^ 63 - 2 ^ 39 }
+    ensures gives { Gives (λ i. (i.kind, i.length)) result (inode_at (inode_in (seen run.old.run) node)) }
+    ensures leaves { Leaves run.old.run result run.new.run }
+    ensures age { Aged run.old run.new 0 }
+{
+    match inode(alloc, run, node)? {
+        None => Err(CoreFault::No(Errno::ENOENT)),
+        Some(it) => Ok(it),
+    }
+}
+
+fn children<D: Device>(alloc: Global, run: &mut Running<D>, node: u64) -> Result<Names, CoreFault>
+    requires { age_of run.old < 2 ^ 63 - 2 ^ 39 }
+    ensures gives { Gives (λ names. names) result (children_at (seen run.old.run) node (inode_in (seen run.old.run) node)) }
+    ensures leaves { Leaves run.old.run result run.new.run }
+    ensures age { Aged run.old run.new 0 }
+{
+    match inode(alloc, run, node)? {
+        None => Err(CoreFault::No(Errno::ENOENT)),
+        Some(it) => {
+            if it.kind == 1 {
+                Ok(names(alloc, run, node)?)
+            } else {
+                Err(CoreFault::No(Errno::ENOTDIR))
+            }
+        }
+    }
+}

@@ -1,0 +1,188 @@
+// Syntax and the walk.
+ghost use Rattle.std.specs.Prelude.{◌≡◌, ◌<◌, ◌≤◌, ◌-◌, ◌^◌, ℕ, List, [], All, length, IfOk, OnOk, IfErr, Ok};
+ghost use Rattle.std.specs.Option.{option_map};
+ghost use Rattle.kfs_objects.specs.Keys.{IsNamed};
+ghost use Rattle.kfs_tx.specs.Run.{age_of, Aged, seen, GetFault};
+ghost use Rattle.kfs_core.specs.Gives.{Gives, Leaves};
+ghost use Rattle.kfs_core.specs.Flat.{inode_in, find_in, enter_at, enter_in, further_in, walk_in, found_in, at_root};
+
+use crate::CoreFault;
+use kfs_objects::{EntryRecord, Inode, entry_key, inode_key};
+use kfs_path::Errno;
+use kfs_tx::Running;
+use kv_base::Text;
+use kv_device::{Device, DeviceFault};
+use std::alloc::Global;
+
+/// How far a walk came.
+#[derive(Debug, Drop)]
+pub struct Spot {
+    /// The directories above, from the root.
+    pub above: Vec<u64>,
+    pub node: Option<u64>,
+    /// The last name gone down.
+    pub name: Text,
+}
+
+ghost use Rattle.kfs_core.specs.Making.{parent_of};
+ghost use Rattle.kfs_core.specs.Spot.{where_of};
+
+/// The directory in which a walk ended, where it went down.
+pub fn parent(spot: &Spot) -> u64
+    requires { 0 < length spot.now.above.items }
+    ensures { result ≡ parent_of (where_of spot.now) }
+{
+    spot.above[spot.above.len() - 1]
+}
+
+/// The kind and the length of a node.
+pub fn inode<D: Device>(
+    alloc: Global,
+    run: &mut Running<D>,
+    node: u64,
+) -> Result<Option<Inode>, DeviceFault>
+    requires { age_of run.old < 2 ^ 63 - 2 ^ 39 }
+    ensures gives { IfOk result (λ i. option_map (λ i. (i.kind, i.length)) i ≡ inode_in (seen run.old.run) node) }
+    ensures same { OnOk result (run.new.run ≡ run.old.run) }
+    ensures err { IfErr result (λ fault. GetFault run.old.run fault run.new.run.machine) }
+    ensures age { Aged run.old run.new 0 }
+{
+    let key = inode_key(alloc, node)?;
+    match run.get(alloc, &key)? {
+        None => Ok(None),
+        Some(value) => Ok(Inode::read(&value)),
+    }
+}
+
+/// The node under a name.
+fn child<D: Device>(
+    alloc: Global,
+    run: &mut Running<D>,
+    parent: u64,
+    name: &[u8],
+) -> Result<Option<u64>, DeviceFault>
+    requires age { age_of run.old < 2 ^ 63 - 2 ^ 39 }
+    requires named { IsNamed name.now }
+    ensures gives { IfOk result (λ i. i ≡ find_in (seen run.old.run) parent name.now) }
+    ensures same { OnOk result (run.new.run ≡ run.old.run) }
+    ensures err { IfErr result (λ fault. GetFault run.old.run fault run.new.run.machine) }
+    ensures age { Aged run.old run.new 0 }
+{
+    let key = entry_key(alloc, parent, name)?;
+    match run.get(alloc, &key)? {
+        None => Ok(None),
+        Some(value) => match EntryRecord::read(&value) {
+            None => Ok(None),
+            Some(entry) => Ok(Some(entry.node)),
+        },
+    }
+}
+
+/// The number of a node in which a piece may be looked for.
+fn enter<D: Device>(
+    alloc: Global,
+    run: &mut Running<D>,
+    node: Option<u64>,
+) -> Result<u64, CoreFault>
+    requires { age_of run.old < 2 ^ 63 - 2 ^ 39 }
+    ensures gives { Gives (λ n. n) result (enter_in (seen run.old.run) node) }
+    ensures leaves { Leaves run.old.run result run.new.run }
+    ensures age { Aged run.old run.new 0 }
+{
+    let Some(n) = node else {
+        return Err(CoreFault::No(Errno::ENOENT));
+    };
+    match inode(alloc, run, n)? {
+        None => Err(CoreFault::No(Errno::ENOENT)),
+        Some(it) => {
+            if it.kind == 1 {
+                Ok(n)
+            } else {
+                Err(CoreFault::No(Errno::ENOTDIR))
+            }
+        }
+    }
+}
+
+/// To the directory above; from the root it stays there.
+fn go_up(spot: &mut Spot)
+    ensures { where_of spot.new ≡ up_from (where_of spot.old) }
+{
+    if let Some(n) = spot.above.pop() {
+        spot.node = Some(n);
+    }
+}
+
+ghost use Rattle.kfs_core.specs.Flat.{up_from};
+
+/// Goes one piece further.
+fn go_on<D: Device>(
+    alloc: Global,
+    run: &mut Running<D>,
+    spot: &mut Spot,
+    directory: u64,
+    piece: &Text,
+) -> Result<(), DeviceFault>
+    requires age { age_of run.old < 2 ^ 63 - 2 ^ 39 }
+    requires named { IsNamed piece.now }
+    ensures gives { OnOk result (where_of spot.new ≡ further_in (seen run.old.run) (where_of spot.old) directory piece.now) }
+    ensures same { OnOk result (run.new.run ≡ run.old.run) }
+    ensures err { IfErr result (λ fault. GetFault run.old.run fault run.new.run.machine) }
+    ensures age { Aged run.old run.new 0 }
+{
+    if piece.bytes() == b".".as_slice() {
+        return Ok(());
+    }
+    if piece.bytes() == b"..".as_slice() {
+        go_up(spot);
+        return Ok(());
+    }
+    spot.above.push(directory)?;
+    spot.name = piece.copy(alloc)?;
+    spot.node = child(alloc, run, directory, piece.bytes())?;
+    Ok(())
+}
+
+pub fn walk<D: Device>(
+    alloc: Global,
+    run: &mut Running<D>,
+    pieces: &[Text],
+) -> Result<Spot, CoreFault>
+    requires age { age_of run.old < 2 ^ 63 - 2 ^ 39 }
+    requires named { All IsNamed pieces.now }
+    ensures gives { Gives where_of result (walk_in (seen run.old.run) at_root pieces.now) }
+    ensures leaves { Leaves run.old.run result run.new.run }
+    ensures age { Aged run.old run.new 0 }
+{
+    let mut spot = Spot {
+        above: Vec::new(alloc),
+        node: Some(1),
+        name: Text::new(alloc, &[])?,
+    };
+    for piece in pieces {
+        let directory = enter(alloc, run, spot.node)?;
+        go_on(alloc, run, &mut spot, directory, piece)?;
+    }
+    Ok(spot)
+}
+
+/// What is at a node: its number and its inode.
+pub fn found<D: Device>(
+    alloc: Global,
+    run: &mut Running<D>,
+    node: Option<u64>,
+) -> Result<Option<(u64, Inode)>, DeviceFault>
+    requires { age_of run.old < 2 ^ 63 - 2 ^ 39 }
+    ensures gives { IfOk result (λ it. option_map (λ it. (it.0, it.1.kind, it.1.length)) it ≡ found_in (seen run.old.run) node) }
+    ensures same { OnOk result (run.new.run ≡ run.old.run) }
+    ensures err { IfErr result (λ fault. GetFault run.old.run fault run.new.run.machine) }
+    ensures age { Aged run.old run.new 0 }
+{
+    let Some(n) = node else {
+        return Ok(None);
+    };
+    match inode(alloc, run, n)? {
+        None => Ok(None),
+        Some(it) => Ok(Some((n, it))),
+    }
+}

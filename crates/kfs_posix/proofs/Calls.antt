@@ -1,0 +1,149 @@
+-- Each call of a session as an event of a life.
+use Rattle.std.proofs.Common.{◌≡◌, ℕ, ◌<◌, ◌≤◌, ◌^◌, ◌&&◌, inl, inr, true, false, Bool, refl, sym, ◌∙◌, ap, subst, arith, List, Option, Some, None, Result, Ok, Err, nat_le, is_some}
+use Rattle.std.specs.FinMap as objects
+use Rattle.std.proofs.lemmas.Bool.Decides.{nat_tests}
+use Rattle.kv_device.specs.declared.fault.DeviceFault.{DeviceFault}
+use Rattle.kv_device.specs.declared.fault.DeviceFault.TheVariants.{NoTx, Busy, TxFull, Full, BadSize, Off, Failed, Memory}
+use Rattle.kv_device.specs.Objects.{Objects, page_count}
+use Rattle.kv_device.specs.Machine.{Machine}
+use Rattle.kv_device.specs.Calls.{has_room as fits_device}
+use Rattle.kfs_path.specs.declared.call.Call.{Call}
+use Rattle.kfs_path.specs.declared.call.Call.TheVariants as calls
+use Rattle.kfs_path.specs.declared.call.Reply.{Reply}
+use Rattle.kfs_path.specs.declared.call.Reply.TheVariants as replies
+use Rattle.kfs_path.specs.declared.call.Errno.{Errno}
+use Rattle.kfs_path.specs.declared.call.Cause.{Cause}
+use Rattle.kfs_path.specs.declared.call.Cause.TheVariants.{Cut, Eio, NoMem}
+use Rattle.kfs_model.specs.declared.Line.TheVariants as lines
+use Rattle.kfs_model.specs.declared.Answer.TheVariants as answers
+use Rattle.kfs_model.specs.Ladder.{◌>>=◌}
+use Rattle.kfs_model.specs.Tree.{Tree, Limits, charge, chunks, has_room, IsTree}
+use Rattle.kfs_model.specs.Step.{World, settled, answers as answered_by}
+use Rattle.kfs_model.specs.Life.{Live, can_fail}
+use Rattle.kfs_shows.specs.Shows.{Shows}
+use Rattle.kfs_shows.proofs.Counting.{few_objects, few_pages}
+use Rattle.kfs_tx.specs.Run.{Run, IsReady, GetFault, CommitFault, seen, committed}
+use Rattle.kfs_tx.proofs.Seeing.{ready_committed, seen_committed, keys_committed}
+use Rattle.kfs_tx.proofs.Falling.{get_falls, get_not_off, commit_falls}
+use Rattle.kfs_core.specs.Flat.{stat_in, list_in}
+use Rattle.kfs_core.specs.Stands.{Stands}
+use Rattle.kfs_core.proofs.Judges.{stat_same}
+use Rattle.kfs_core.proofs.Children.{list_same}
+use Rattle.kfs_posix.specs.Book.{Book, limits_of, cause_of}
+use Rattle.kfs_posix.specs.Showing.{ShowsLive, IsSaved, GoesOn}
+use Rattle.kfs_posix.proofs.Going.{as_before, as_synced, idle_goes, fall_goes, up_goes, answered}
+
+pub stands_of : (b : Book) (live : Live) → ShowsLive b live → Stands (seen b.run) live.world.tree
+stands_of b live sh = record { tree = sh.tree; shows = sh.sees.tree; low = (let h = sh.low in omega arith) }
+
+-- what is answered where nothing changes
+abbrev pub reply_of : Result Reply Errno → Reply
+reply_of (Ok reply) = reply
+reply_of (Err e) = replies.Err e
+
+-- ---- stat
+
+pub stat_goes : (old : Book) (path : List ℕ) (r : Result Reply Errno) → old.down ≡ None → stat_in (seen old.run) path ≡ r → GoesOn old (lines.Call (calls.Stat path)) (answers.Reply (reply_of r)) old
+stat_goes old path r up is = idle_goes old (calls.Stat path) (reply_of r) up (λ w x. refl) refl (λ live sh.
+    ap (λ s. settled live.world (s >>= answered_by live.world)) (stat_same (seen old.run) live.world.tree (stands_of old live sh) path ∙ is) ∙ by live r)
+  where
+    by : (live : Live) (r : Result Reply Errno) → settled live.world (r >>= answered_by live.world) ≡ record { world = live.world; reply = reply_of r }
+    by live (Ok reply) = refl
+    by live (Err e) = refl
+
+can_read : (w : World) (call : Call) (r : Run) (fault : DeviceFault) (new : Machine) → IsReady r → GetFault r fault new → can_fail w call Eio ≡ true → can_fail w call NoMem ≡ true → (cause : Cause) → cause ≡ cause_of fault → can_fail w call cause ≡ true
+can_read w call r NoTx new ready h eio nomem cause e = ap (can_fail w call) e ∙ nomem
+can_read w call r Busy new ready h eio nomem cause e = ap (can_fail w call) e ∙ nomem
+can_read w call r TxFull new ready h eio nomem cause e = ap (can_fail w call) e ∙ nomem
+can_read w call r (Full k p) new ready h eio nomem cause e = ap (can_fail w call) e ∙ nomem
+can_read w call r BadSize new ready h eio nomem cause e = ap (can_fail w call) e ∙ nomem
+can_read w call r Off new ready h eio nomem cause e = absurd (get_not_off r new ready h)
+can_read w call r Failed new ready h eio nomem cause e = ap (can_fail w call) e ∙ eio
+can_read w call r Memory new ready h eio nomem cause e = ap (can_fail w call) e ∙ nomem
+
+-- a call that only reads meets a fault
+pub read_falls : (old new : Book) (call : Call) (fault : DeviceFault) → ((w : World) → can_fail w call Eio ≡ true) → ((w : World) → can_fail w call NoMem ≡ true) → old.down ≡ None → new.down ≡ Some (cause_of fault) → limits_of new ≡ limits_of old → GetFault old.run fault new.run.machine
+    → GoesOn old (lines.Call call) (answers.Reply (replies.Down (cause_of fault))) new
+read_falls old new call fault eio nomem up down same h = fall_goes old new call fault up down same (λ live sh. record {
+  stands = old.run.machine.stable;
+  fallen = get_falls old.run fault new.run.machine sh.ready h;
+  stood = as_before sh.saved;
+  can = can_read live.world call old.run fault new.run.machine sh.ready h (eio live.world) (nomem live.world);
+})
+
+-- what the transaction sees may be saved
+pub live_saved : (b : Book) (live : Live) → ShowsLive b live → IsSaved (limits_of b) (seen b.run) live.world.tree live.past.count
+live_saved b live sh = record { tree = sh.tree; shows = sh.sees; next = sh.low; count = sh.few_changes; room = sh.room; whole = sh.whole }
+
+-- ---- sync
+
+pub sync_goes : (old : Book) → old.down ≡ None → GoesOn old (lines.Call calls.Sync) (answers.Reply replies.Done) (record old { run = committed old.run })
+sync_goes old up = up_goes old (record old { run = committed old.run }) calls.Sync replies.Done up (λ s live showing sh.
+    answered old (record old { run = committed old.run }) s live calls.Sync replies.Done showing sh refl (record {
+      up = sh.up;
+      ready = ready_committed old.run sh.ready;
+      tree = sh.tree;
+      low = sh.low;
+      few_changes = sh.few_changes;
+      whole = sh.whole;
+      sees = subst (λ m. Shows m live.world.tree live.past.count) (sym (seen_committed old.run sh.ready)) sh.sees;
+      saved = subst (λ t. IsSaved (limits_of old) (seen old.run) t live.past.count) (sym sh.newest) (live_saved old live sh);
+      newest = sh.newest;
+      behind = omega arith;
+      desk = sh.desk;
+      count = sh.count;
+      next = sh.next;
+      changes = refl;
+      weight = refl;
+      light = omega arith;
+      few = let h = keys_committed old.run sh.ready in omega arith;
+      keys = sh.keys;
+      pages = sh.pages;
+      charged = sh.charged;
+      room = sh.room;
+    }) refl refl (record { most_cuts = refl; most_faults = refl; room_keys = refl; room_pages = refl }))
+
+both_true : (a b : Bool) → (a && b) ≡ true → (a ≡ true) × (b ≡ true)
+both_true true b e = (refl, e)
+both_true false b e = absurd (cc)
+
+-- what shows a tree with room has room on the device
+pub room_for : (m : Objects) (t : Tree) (n : ℕ) (k : Limits) (d : Machine) → IsTree t → Shows m t n → t.next ≤ 2 ^ 63 → has_room k t ≡ true → k.keys ≡ d.room_keys → k.pages ≡ d.room_pages → fits_device d m ≡ true
+room_for m t n k d tree shows low room keys pages =
+    let h = both_true (nat_le (charge t) k.keys) (nat_le (chunks t) k.pages) room in
+    let a = few_objects m t tree shows.tree low in
+    let b = few_pages m t n tree shows low in
+    let c : charge t ≤ k.keys = grind (arith, nat_tests, h.0) in
+    let e : chunks t ≤ k.pages = grind (arith, nat_tests, h.1) in
+    let f : nat_le (objects.len m) d.room_keys ≡ true = grind (arith, nat_tests) in
+    let g : nat_le (page_count m) d.room_pages ≡ true = grind (arith, nat_tests) in
+    λ i. (f i && g i)
+
+pub any_cause : (w : World) (call : Call) → can_fail w call Cut ≡ true → can_fail w call Eio ≡ true → can_fail w call NoMem ≡ true → (cause : Cause) → can_fail w call cause ≡ true
+any_cause w call cut eio nomem Cut = cut
+any_cause w call cut eio nomem Eio = eio
+any_cause w call cut eio nomem NoMem = nomem
+
+pub sync_falls : (old new : Book) (fault : DeviceFault) → old.down ≡ None → new.down ≡ Some (cause_of fault) → limits_of new ≡ limits_of old → CommitFault old.run fault new.run.machine → GoesOn old (lines.Call calls.Sync) (answers.Reply (replies.Down (cause_of fault))) new
+sync_falls old new fault up down same h = fall_goes old new calls.Sync fault up down same (λ live sh.
+    elim (commit_falls old.run fault new.run.machine sh.ready (room_for (seen old.run) live.world.tree live.past.count (limits_of old) old.run.machine sh.tree sh.sees (let h = sh.low in omega arith) sh.room sh.keys sh.pages) h) [
+      | inl a ↦ record { stands = old.run.machine.stable; fallen = a; stood = as_before sh.saved; can = λ cause e. any_cause live.world calls.Sync refl refl refl cause }
+      | inr a ↦ record { stands = seen old.run; fallen = a; stood = as_synced refl refl (subst (λ t. IsSaved (limits_of old) (seen old.run) t live.past.count) (sym sh.newest) (live_saved old live sh)); can = λ cause e. any_cause live.world calls.Sync refl refl refl cause }
+    ])
+
+pub none_of : (o : Option Cause) → false ≡ is_some o → o ≡ None
+none_of None e = refl
+none_of (Some c) e = absurd (cc)
+
+-- ---- list
+
+pub list_goes : (old : Book) (path : List ℕ) (r : Result Reply Errno) → old.down ≡ None → old.keys < 2 ^ 32 → list_in (seen old.run) path ≡ r → GoesOn old (lines.Call (calls.List path)) (answers.Reply (reply_of r)) old
+list_goes old path r up small is = idle_goes old (calls.List path) (reply_of r) up (λ w x. refl) refl (λ live sh.
+    let h = both_true (nat_le (charge live.world.tree) old.keys) (nat_le (chunks live.world.tree) old.pages) sh.room in
+    let le : charge live.world.tree ≤ old.keys = grind (arith, nat_tests, h.0) in
+    let few = few_objects (seen old.run) live.world.tree sh.tree sh.sees.tree (let h = sh.low in omega arith) in
+    ap (λ s. settled live.world (s >>= answered_by live.world)) (list_same (seen old.run) live.world.tree (stands_of old live sh) (omega arith) path ∙ is) ∙ by live r)
+  where
+    by : (live : Live) (r : Result Reply Errno) → settled live.world (r >>= answered_by live.world) ≡ record { world = live.world; reply = reply_of r }
+    by live (Ok reply) = refl
+    by live (Err e) = refl

@@ -1,0 +1,135 @@
+-- What a session's answers to faults say of counts, causes and lives.
+use Rattle.std.proofs.Common.{◌≡◌, ℕ, ◌+◌, ◌⊎◌, inl, inr, true, false, cond, Bool, refl, sym, ◌∙◌, ap, subst, List, Option, Some, None, Result, Ok, Err}
+use Rattle.kv_device.specs.declared.fault.DeviceFault.{DeviceFault}
+use Rattle.kv_device.specs.declared.fault.DeviceFault.TheVariants.{NoTx, Busy, TxFull, Full, BadSize, Off, Failed, Memory}
+use Rattle.kv_device.specs.Machine.{Machine}
+use Rattle.kfs_path.specs.declared.call.Call.{Call}
+use Rattle.kfs_path.specs.declared.call.Reply.{Reply}
+use Rattle.kfs_path.specs.declared.call.Reply.TheVariants as replies
+use Rattle.kfs_path.specs.declared.call.Errno.{Errno}
+use Rattle.kfs_path.specs.declared.call.Cause.{Cause}
+use Rattle.kfs_path.specs.declared.call.Cause.TheVariants.{Cut, Eio, NoMem}
+use Rattle.kfs_model.specs.declared.Line.TheVariants as lines
+use Rattle.kfs_model.specs.declared.Answer.TheVariants as answers
+use Rattle.kfs_model.specs.Step.{World}
+use Rattle.kfs_model.specs.Life.{can_fail}
+use Rattle.kfs_tx.specs.Run.{Run, Caused, CausedAlone, GetFault, CommitFault, ChangeFault, committed, one_change, is_full, counted}
+use Rattle.kfs_core.specs.declared.fault.CoreFault.{CoreFault}
+use Rattle.kfs_core.specs.declared.fault.CoreFault.TheVariants.{No, Device}
+use Rattle.kfs_core.specs.Core.{KfsState, run_in, Stays}
+use Rattle.kfs_core.specs.Flat.{Where}
+use Rattle.kfs_core.specs.Gives.{Fails, LeavesAtFault, CommitFails}
+use Rattle.kfs_core.specs.Making.{MakeFault, MkdirFails, made, with_entry, parent_of}
+use Rattle.kfs_posix.specs.Book.{Book, SessionState, state_of, book_of, limits_of, cause_of}
+use Rattle.kfs_posix.specs.Answering.{Counts, KeepsCause, refusal, down_after}
+use Rattle.kfs_posix.specs.Showing.{GoesOn}
+use Rattle.kfs_posix.proofs.Calls.{read_falls, sync_falls}
+
+-- ---- counts
+
+caused_counts : (m : Machine) (fault : DeviceFault) (new : Machine) → m.up ≡ true → Caused m fault new → Counts m (replies.Down (cause_of fault)) new
+caused_counts m NoTx new up h = absurd h
+caused_counts m Busy new up h = absurd h
+caused_counts m TxFull new up h = h
+caused_counts m (Full k p) new up h = h
+caused_counts m BadSize new up h = h
+caused_counts m Off new up (inl h) = absurd (let e : true ≡ false = sym up ∙ h.0 in cc)
+caused_counts m Off new up (inr h) = h
+caused_counts m Failed new up h = h
+caused_counts m Memory new up h = h
+
+alone_caused : (m : Machine) (fault : DeviceFault) (new : Machine) → CausedAlone m fault new → Caused m fault new
+alone_caused m NoTx new h = absurd h
+alone_caused m Busy new h = absurd h
+alone_caused m TxFull new h = absurd h
+alone_caused m (Full k p) new h = absurd h
+alone_caused m BadSize new h = absurd h
+alone_caused m Off new h = h
+alone_caused m Failed new h = h
+alone_caused m Memory new h = h
+
+same_counts : (m new : Machine) → new ≡ m → (new.cuts ≡ m.cuts) × (new.faults ≡ m.faults)
+same_counts m new e = (ap (λ (x : Machine). x.cuts) e, ap (λ (x : Machine). x.faults) e)
+
+-- a call that only reads
+pub read_counts : (old new : Run) (fault : CoreFault) → old.machine.up ≡ true → LeavesAtFault old fault new → Counts old.machine (refusal fault) new.machine
+read_counts old new (No e) up h = same_counts old.machine new.machine (ap (λ (r : Run). r.machine) h)
+read_counts old new (Device f) up h = caused_counts old.machine f new.machine up (alone_caused old.machine f new.machine h.1)
+
+pub commit_counts : (old new : Run) (fault : CoreFault) → old.machine.up ≡ true → CommitFails old new fault → Counts old.machine (refusal fault) new.machine
+commit_counts old new (No e) up h = absurd h
+commit_counts old new (Device f) up h = caused_counts old.machine f new.machine up h.1
+
+make_caused : (r : Run) (parent : ℕ) (name : List ℕ) (fault : DeviceFault) (new : Machine) → MakeFault r parent name fault new → Caused r.machine fault new
+make_caused r parent name fault new (inl h) = h.1
+make_caused r parent name fault new (inr (inl h)) = h.1
+make_caused r parent name fault new (inr (inr (inl h))) = h.1
+make_caused r parent name fault new (inr (inr (inr h))) = h.1.1
+
+pub mkdir_counts : (old new : Run) (judged : Result Where Errno) (fault : CoreFault) → old.machine.up ≡ true → MkdirFails old judged fault new → Counts old.machine (refusal fault) new.machine
+mkdir_counts old new judged (No e) up h = same_counts old.machine new.machine (ap (λ (r : Run). r.machine) h.1)
+mkdir_counts old new judged (Device f) up (inl h) = caused_counts old.machine f new.machine up (alone_caused old.machine f new.machine h.1)
+mkdir_counts old new judged (Device f) up (inr h) = caused_counts old.machine f new.machine up (make_caused old (parent_of h.0) h.0.name f new.machine h.2)
+
+-- ---- causes
+
+pub refused_keeps : (old new : Book) (fault : CoreFault) → old.down ≡ None → new.down ≡ down_after old.down fault → KeepsCause old (refusal fault) new
+refused_keeps old new (No e) up h = (up, h ∙ up)
+refused_keeps old new (Device f) up h = (up, h)
+
+-- ---- up as long as no cause is kept
+
+pub read_awake : (old new : Run) (d : Option Cause) (fault : CoreFault) → old.machine.up ≡ true → LeavesAtFault old fault new → down_after d fault ≡ None → new.machine.up ≡ true
+read_awake old new d (No e) up h none = ap (λ (r : Run). r.machine.up) h ∙ up
+read_awake old new d (Device f) up h none = absurd (cc)
+
+pub commit_awake : (old new : Run) (d : Option Cause) (fault : CoreFault) → CommitFails old new fault → down_after d fault ≡ None → new.machine.up ≡ true
+commit_awake old new d (No e) h none = absurd h
+commit_awake old new d (Device f) h none = absurd (cc)
+
+pub mkdir_awake : (old new : Run) (judged : Result Where Errno) (d : Option Cause) (fault : CoreFault) → old.machine.up ≡ true → MkdirFails old judged fault new → down_after d fault ≡ None → new.machine.up ≡ true
+mkdir_awake old new judged d (No e) up h none = ap (λ (r : Run). r.machine.up) h.1 ∙ up
+mkdir_awake old new judged d (Device f) up h none = absurd (cc)
+
+-- what a boundary leaves of a run's device
+pub record SameMachine (old new : Machine) : Type 0 where
+  pub up : new.up ≡ old.up
+  pub cuts : new.cuts ≡ old.cuts
+  pub faults : new.faults ≡ old.faults
+
+pub made_same : (r : Run) (parent : ℕ) (name : List ℕ) → SameMachine r.machine (made r parent name).machine
+made_same r parent name = by (counted (with_entry r parent name) 4 (r.next + 1)) (is_full (r.since + 1) (r.weight + 4)) refl refl refl
+  where
+    by : (s : Run) (b : Bool) → s.machine.up ≡ r.machine.up → s.machine.cuts ≡ r.machine.cuts → s.machine.faults ≡ r.machine.faults → SameMachine r.machine (cond b (committed s) s).machine
+    by s true a b c = record { up = a; cuts = b; faults = c }
+    by s false a b c = record { up = a; cuts = b; faults = c }
+
+-- ---- lives
+
+book_is : (old : SessionState) (kfs : KfsState) (d : Option Cause) → state_of kfs d ≡ old → book_of kfs d ≡ old.book
+book_is old kfs d e = ap (λ (s : SessionState). s.book) e
+
+-- the running transaction alone may have changed
+pub stays_book : (k0 k1 : KfsState) (d : Option Cause) → Stays k0 k1 → book_of k1 d ≡ record (book_of k0 d) { run = run_in k1 }
+stays_book k0 k1 d e = ap (λ (k : KfsState). book_of k d) e
+
+-- answered by an error or the call's fault, where it only reads
+pub read_refused : (old : Book) (call : Call) (def : Result Reply Errno) (fault : CoreFault) (run : Run) → old.down ≡ None → Fails fault def → LeavesAtFault old.run fault run
+    → ((w : World) → can_fail w call Eio ≡ true) → ((w : World) → can_fail w call NoMem ≡ true) → ((e : Errno) → def ≡ Err e → GoesOn old (lines.Call call) (answers.Reply (replies.Err e)) old)
+    → GoesOn old (lines.Call call) (answers.Reply (refusal fault)) (record old { run = run; down = down_after old.down fault })
+read_refused old call def (No e) run up fails leaves eio nomem goes = subst (λ r. GoesOn old (lines.Call call) (answers.Reply (replies.Err e)) (record old { run = r })) (sym leaves) (goes e fails)
+read_refused old call def (Device f) run up fails leaves eio nomem goes = read_falls old (record old { run = run; down = Some (cause_of f) }) call f eio nomem up refl refl leaves
+
+-- ---- the same of a session, by what it was made of
+
+pub counts_by : (old : SessionState) (k0 : KfsState) (d : Option Cause) (reply : Reply) (fault : CoreFault) (new : Machine) → state_of k0 d ≡ old → reply ≡ refusal fault → Counts (run_in k0).machine (refusal fault) new → Counts old.book.run.machine reply new
+counts_by old k0 d reply fault new is reply_is h = subst (λ (s : SessionState). Counts s.book.run.machine reply new) is (subst (λ r. Counts (run_in k0).machine r new) (sym reply_is) h)
+
+pub keeps_by : (old : SessionState) (k0 k1 : KfsState) (d d1 : Option Cause) (reply : Reply) (fault : CoreFault) → state_of k0 d ≡ old → d ≡ None → reply ≡ refusal fault → d1 ≡ down_after d fault → KeepsCause old.book reply (book_of k1 d1)
+keeps_by old k0 k1 d d1 reply fault is up reply_is down = subst (λ (s : SessionState). KeepsCause s.book reply (book_of k1 d1)) is (subst (λ r. KeepsCause (book_of k0 d) r (book_of k1 d1)) (sym reply_is) (refused_keeps (book_of k0 d) (book_of k1 d1) fault up down))
+
+pub none_kept : (old : SessionState) (k0 : KfsState) (d : Option Cause) → state_of k0 d ≡ old → d ≡ None → (old.book.down ≡ None) × (d ≡ None)
+none_kept old k0 d is up = (sym (ap (λ (s : SessionState). s.book.down) is) ∙ up, up)
+
+pub counts_same : (old : SessionState) (k0 : KfsState) (d : Option Cause) (new : Machine) → state_of k0 d ≡ old → new.cuts ≡ (run_in k0).machine.cuts → new.faults ≡ (run_in k0).machine.faults → (new.cuts ≡ old.book.run.machine.cuts) × (new.faults ≡ old.book.run.machine.faults)
+counts_same old k0 d new is cuts faults = (cuts ∙ ap (λ (s : SessionState). s.book.run.machine.cuts) is, faults ∙ ap (λ (s : SessionState). s.book.run.machine.faults) is)

@@ -1,0 +1,223 @@
+-- Answered calls, and calls in which the session goes down, as events of a life.
+use Rattle.std.proofs.Common.{◌≡◌, ℕ, ◌<◌, ◌≤◌, ◌+◌, ◌-◌, ◌^◌, ◌&&◌, ◌⊎◌, inl, inr, true, false, cond, Bool, refl, sym, ◌∙◌, ap, subst, arith, [], ◌∷◌, Option, Some, None, is_some}
+use Rattle.std.specs.Ordering.{nat_cmp}
+use Rattle.std.specs.FinMap.{find}
+use Rattle.std.specs.Prelude.{IsTrue}
+use Rattle.kv_device.specs.declared.fault.DeviceFault.{DeviceFault}
+use Rattle.kv_device.specs.declared.fault.DeviceFault.TheVariants.{NoTx, Busy, TxFull, Full, BadSize, Off, Failed, Memory}
+use Rattle.kv_device.specs.Objects.{Objects}
+use Rattle.kfs_path.specs.declared.call.Call.{Call}
+use Rattle.kfs_path.specs.declared.call.Reply.{Reply}
+use Rattle.kfs_path.specs.declared.call.Reply.TheVariants as replies
+use Rattle.kfs_path.specs.declared.call.Cause.{Cause}
+use Rattle.kfs_path.specs.declared.call.Cause.TheVariants.{Cut, Eio, NoMem}
+use Rattle.kfs_model.specs.declared.Line.TheVariants as lines
+use Rattle.kfs_model.specs.declared.Answer.TheVariants as answers
+use Rattle.kfs_model.specs.Tree.{Tree, Limits}
+use Rattle.kfs_model.specs.Desk.{Desk}
+use Rattle.kfs_model.specs.Step.{World, After, step}
+use Rattle.kfs_model.specs.Change.{weight, commits, is_boundary}
+use Rattle.kfs_model.specs.Life.{State, Now, Up, Down, Live, Past, tree_at, past_after, live_with, live_after, fallen, with_now, disarmed, is_armed, can_fail, EventAt, IsFree}
+use Rattle.kfs_tx.specs.Run.{SameBounds, HasCause, Fallen, is_full}
+use Rattle.kfs_posix.specs.Book.{Book, limits_of, cause_of}
+use Rattle.kfs_posix.specs.Showing.{IsSaved, ShowsLive, ShowsDown, ShowsNow, ShowsState, GoesOn, one_if}
+use Rattle.kfs_posix.proofs.Past.{older, newest}
+
+-- an up session shows an up state alone
+abbrev Goes : Book → State → Now → Call → Reply → Book → Type 0
+Goes old s now call reply new = (t : State) × EventAt (limits_of old) s now (lines.Call call) (answers.Reply reply) t × ShowsState new t
+
+goes_at : (old new : Book) (call : Call) (reply : Reply) → ((s : State) → ShowsState old s → Goes old s s.now call reply new) → GoesOn old (lines.Call call) (answers.Reply reply) new
+goes_at old new call reply h = record { each = h }
+
+pub up_goes : (old new : Book) (call : Call) (reply : Reply) → old.down ≡ None → ((s : State) (live : Live) → ShowsState old s → ShowsLive old live → Goes old s (Up live) call reply new) → GoesOn old (lines.Call call) (answers.Reply reply) new
+up_goes old new call reply up h = record { each = λ s showing. by s showing s.now showing.now }
+  where
+    by : (s : State) → ShowsState old s → (now : Now) → ShowsNow old now → Goes old s now call reply new
+    by s showing (Up live) sh = h s live showing sh
+    by s showing (Down past may) sh = absurd (let e : None ≡ Some sh.cause = sym up ∙ sh.down in cc)
+
+-- a session that is down answers so
+pub down_goes : (old : Book) (call : Call) → is_some old.down ≡ true → GoesOn old (lines.Call call) (answers.Reply replies.Off) old
+down_goes old call down = record { each = λ s showing. by s showing s.now showing.now }
+  where
+    by : (s : State) → ShowsState old s → (now : Now) → ShowsNow old now → Goes old s now call replies.Off old
+    by s showing (Up live) sh = absurd (let e : true ≡ false = sym down ∙ ap (is_some {T = Cause}) sh.up in cc)
+    by s showing (Down past may) sh = (s, (refl, refl), showing)
+
+free : (b : Book) (live : Live) → ShowsLive b live → IsFree live.world 0
+free b live sh = ap (λ (d : Desk). is_some (find nat_cmp 0 d.descriptions)) sh.desk
+
+-- answered: the live state that follows is shown
+pub answered : (old new : Book) (s : State) (live : Live) (call : Call) (reply : Reply) → ShowsState old s → ShowsLive old live → reply ≡ (step (limits_of old) 0 live.world call).reply
+    → ShowsLive new (live_after live call (step (limits_of old) 0 live.world call)) → new.run.machine.cuts ≡ old.run.machine.cuts → new.run.machine.faults ≡ old.run.machine.faults → SameBounds old.run.machine new.run.machine
+    → Goes old s (Up live) call reply new
+answered old new s live call reply showing sh is shows cuts faults bounds = (
+  with_now s (Up (live_after live call (step (limits_of old) 0 live.world call))),
+  (0, free old live sh, inl (is, refl)),
+  record {
+    now = shows;
+    cuts = let h = showing.cuts in let b = bounds.most_cuts in omega arith;
+    faults = let h = showing.faults in let b = bounds.most_faults in omega arith;
+    most_cuts = let h = showing.most_cuts in let b = bounds.most_cuts in omega arith;
+    most_faults = let h = showing.most_faults in let b = bounds.most_faults in omega arith;
+    few_cuts = let h = showing.few_cuts in let b = bounds.most_cuts in omega arith;
+    few_faults = let h = showing.few_faults in let b = bounds.most_faults in omega arith;
+  },
+)
+
+-- a call that changes nothing
+pub idle_goes : (old : Book) (call : Call) (reply : Reply) → old.down ≡ None → ((w x : World) → weight w call (record { world = x; reply = reply }) ≡ None) → commits call reply ≡ false
+    → ((live : Live) → ShowsLive old live → step (limits_of old) 0 live.world call ≡ record { world = live.world; reply = reply }) → GoesOn old (lines.Call call) (answers.Reply reply) old
+idle_goes old call reply up none quiet did = up_goes old old call reply up (λ s live showing sh.
+    let after : After = record { world = live.world; reply = reply } in
+    let is = did live sh in
+    let same : live_after live call (step (limits_of old) 0 live.world call) ≡ live =
+    ap (live_after live call) is
+    ∙ ap (λ (o : Option ℕ). live_with live live.world o (is_boundary live.since call reply o)) (none live.world live.world)
+    ∙ ap (λ (f : Bool). live_with live live.world None f) quiet in
+    answered old old s live call reply showing sh (sym (ap (λ (a : After). a.reply) is)) (subst (ShowsLive old) (sym same) sh) refl refl (record { most_cuts = refl; most_faults = refl; room_keys = refl; room_pages = refl }))
+
+-- a change
+pub change_goes : (old new : Book) (call : Call) (reply : Reply) (n : ℕ) → old.down ≡ None → ((w x : World) → weight w call (record { world = x; reply = reply }) ≡ Some n)
+    → new.run.machine.cuts ≡ old.run.machine.cuts → new.run.machine.faults ≡ old.run.machine.faults → SameBounds old.run.machine new.run.machine
+    → ((live : Live) → ShowsLive old live → (w : World) × (step (limits_of old) 0 live.world call ≡ record { world = w; reply = reply }) × ShowsLive new (live_with live w (Some n) (is_full (old.run.since + 1) (old.run.weight + n))))
+    → GoesOn old (lines.Call call) (answers.Reply reply) new
+change_goes old new call reply n up weighs cuts faults bounds did = up_goes old new call reply up (λ s live showing sh.
+    let it = did live sh in
+    let same : live_after live call (step (limits_of old) 0 live.world call) ≡ live_with live it.0 (Some n) (is_full (old.run.since + 1) (old.run.weight + n)) =
+    ap (live_after live call) it.1
+    ∙ ap (λ (o : Option ℕ). live_with live it.0 o (is_boundary live.since call reply o)) (weighs live.world it.0)
+    ∙ (λ i. live_with live it.0 (Some n) (is_full (sym sh.changes i + 1) (sym sh.weight i + n))) in
+    answered old new s live call reply showing sh (sym (ap (λ (a : After). a.reply) it.1)) (subst (ShowsLive new) (sym same) it.2) cuts faults bounds)
+
+-- ---- going down
+
+-- what stands after the failed call: the tree at mark, or that of the call's own boundary
+pub data Stood (live : Live) (call : Call) (after : After) (k : Limits) (stands : Objects) : Type 0 where
+  as_before : IsSaved k stands (tree_at live.past live.mark) live.mark → Stood live call after k stands
+  as_after : (n : ℕ) → weight live.world call after ≡ Some n → is_boundary live.since call after.reply (Some n) ≡ true → IsSaved k stands after.world.tree (live.past.count + 1) → Stood live call after k stands
+  as_synced : weight live.world call after ≡ None → is_boundary live.since call after.reply None ≡ true → IsSaved k stands (tree_at live.past live.past.count) live.past.count → Stood live call after k stands
+
+old_tree : (past : Past) (t : Tree) (change : Option ℕ) (k : ℕ) → k ≤ past.count → tree_at (past_after past t change) k ≡ tree_at past k
+old_tree past t None k le = refl
+old_tree past t (Some n) k le = older past t k le
+
+stood_down : (new : Book) (live : Live) (call : Call) (after : After) (cause : Cause) (stands : Objects) → new.down ≡ Some cause → new.run.machine.stable ≡ stands → live.mark ≤ live.past.count → new.keys ≡ new.run.machine.room_keys → new.pages ≡ new.run.machine.room_pages → Stood live call after (limits_of new) stands → ShowsNow new (fallen live call after)
+stood_down new live call after cause stands down is behind keys pages (as_before shows) = record {
+  cause = cause;
+  down = down;
+  stands = live.mark;
+  may_be = inl refl;
+  saved = subst (λ m. IsSaved (limits_of new) m (tree_at (past_after live.past after.world.tree (weight live.world call after)) live.mark) live.mark) (sym is)
+      (subst (λ t. IsSaved (limits_of new) stands t live.mark) (sym (old_tree live.past after.world.tree (weight live.world call after) live.mark behind)) shows);
+  keys = keys;
+  pages = pages;
+}
+stood_down new live call after cause stands down is behind keys pages (as_after n weighs falls shows) =
+    subst (λ (o : Option ℕ). ShowsDown new (past_after live.past after.world.tree o) (live.mark ∷ (cond (is_boundary live.since call after.reply o) ((past_after live.past after.world.tree o).count ∷ []) []))) (sym weighs)
+    (subst (λ (f : Bool). ShowsDown new (past_after live.past after.world.tree (Some n)) (live.mark ∷ (cond f ((live.past.count + 1) ∷ []) []))) (sym falls)
+    (record {
+      cause = cause;
+      down = down;
+      stands = live.past.count + 1;
+      may_be = inr (inl refl);
+      saved = subst (λ m. IsSaved (limits_of new) m (tree_at (past_after live.past after.world.tree (Some n)) (live.past.count + 1)) (live.past.count + 1)) (sym is)
+          (subst (λ t. IsSaved (limits_of new) stands t (live.past.count + 1)) (sym (newest live.past after.world.tree)) shows);
+      keys = keys;
+      pages = pages;
+    }))
+stood_down new live call after cause stands down is behind keys pages (as_synced weighs falls shows) =
+    subst (λ (o : Option ℕ). ShowsDown new (past_after live.past after.world.tree o) (live.mark ∷ (cond (is_boundary live.since call after.reply o) ((past_after live.past after.world.tree o).count ∷ []) []))) (sym weighs)
+    (subst (λ (f : Bool). ShowsDown new live.past (live.mark ∷ (cond f (live.past.count ∷ []) []))) (sym falls)
+    (record {
+      cause = cause;
+      down = down;
+      stands = live.past.count;
+      may_be = inr (inl refl);
+      saved = subst (λ m. IsSaved (limits_of new) m (tree_at live.past live.past.count) live.past.count) (sym is) shows;
+      keys = keys;
+      pages = pages;
+    }))
+
+rose : (old new most : ℕ) (armed : Bool) → most ≤ old + one_if armed → old ≤ most → most < 2 ^ 63 → (new ≤ most) × ((old < new) ⊎ (2 ^ 64 - 1 ≤ old)) → (armed ≡ true) × (most ≤ new)
+rose old new most armed le counted few rises = by armed le rises.1
+  where
+    by : (armed : Bool) → most ≤ old + one_if armed → (old < new) ⊎ (2 ^ 64 - 1 ≤ old) → (armed ≡ true) × (most ≤ new)
+    by true le (inl lt) = (refl, omega arith)
+    by true le (inr top) = absurd (omega arith)
+    by false le (inl lt) = absurd (let h = rises.0 in omega arith)
+    by false le (inr top) = absurd (omega arith)
+
+both_true : (a b : Bool) → a ≡ true → b ≡ true → (a && b) ≡ true
+both_true a b e f = λ i. (e i && f i)
+
+-- why it goes down, and what stands then
+pub record Fell (old new : Book) (live : Live) (call : Call) (fault : DeviceFault) : Type 0 where
+  pub stands : Objects
+  pub fallen : Fallen old.run.machine fault stands new.run.machine
+  pub stood : Stood live call (step (limits_of old) 0 live.world call) (limits_of old) stands
+  pub can : (cause : Cause) → cause ≡ cause_of fault → can_fail live.world call cause ≡ true
+
+-- the session goes down in the call
+pub fall_goes : (old new : Book) (call : Call) (fault : DeviceFault) → old.down ≡ None → new.down ≡ Some (cause_of fault) → limits_of new ≡ limits_of old
+    → ((live : Live) → ShowsLive old live → Fell old new live call fault)
+    → GoesOn old (lines.Call call) (answers.Reply (replies.Down (cause_of fault))) new
+fall_goes old new call fault up down same fell = up_goes old new call (replies.Down (cause_of fault)) up (λ s live showing sh.
+    let after = step (limits_of old) 0 live.world call in
+    let f = fell live sh in
+    let shows : (cause : Cause) → new.down ≡ Some cause → ShowsNow new (fallen live call after) = λ cause e. stood_down new live call after cause f.stands e f.fallen.stable sh.behind (ap (λ (k : Limits). k.keys) same ∙ sh.keys ∙ sym f.fallen.bounds.room_keys) (ap (λ (k : Limits). k.pages) same ∙ sh.pages ∙ sym f.fallen.bounds.room_pages) (subst (λ k. Stood live call after k f.stands) (sym same) f.stood) in
+    let it = by s showing live sh (fallen live call after) fault down f.can f.fallen.cause f.fallen.bounds shows in
+    (it.0, (0, free old live sh, inr it.1), it.2))
+  where
+    by : (s : State) → ShowsState old s → (live : Live) → ShowsLive old live → (to : Now) → (fault : DeviceFault) → new.down ≡ Some (cause_of fault) → ((cause : Cause) → cause ≡ cause_of fault → can_fail live.world call cause ≡ true) → HasCause old.run.machine fault new.run.machine → SameBounds old.run.machine new.run.machine
+        → ((cause : Cause) → new.down ≡ Some cause → ShowsNow new to)
+        → (t : State) × ((cause : Cause) × (replies.Down (cause_of fault) ≡ replies.Down cause) × IsTrue (is_armed s cause && can_fail live.world call cause) × (t ≡ disarmed s cause to)) × ShowsState new t
+    by s showing live sh to NoTx down can cause bounds shows = absurd cause
+    by s showing live sh to Busy down can cause bounds shows = absurd cause
+    by s showing live sh to TxFull down can cause bounds shows = absurd cause
+    by s showing live sh to (Full k p) down can cause bounds shows = absurd cause
+    by s showing live sh to BadSize down can cause bounds shows = absurd cause
+    by s showing live sh to Off down can cause bounds shows =
+        let r = rose old.run.machine.cuts new.run.machine.cuts old.run.machine.most_cuts s.cut_armed showing.cuts showing.most_cuts showing.few_cuts cause.0 in
+        let c : new.run.machine.cuts ≤ old.run.machine.most_cuts = cause.0.0 in (
+          disarmed s Cut to,
+          (Cut, refl, both_true s.cut_armed (can_fail live.world call Cut) r.0 (can Cut refl), refl),
+          record {
+            now = shows Cut down;
+            cuts = let b = bounds.most_cuts in omega arith;
+            faults = let h = showing.faults in let b = bounds.most_faults in let f = cause.1 in omega arith;
+            most_cuts = let b = bounds.most_cuts in omega arith;
+            most_faults = let h = showing.most_faults in let b = bounds.most_faults in let f = cause.1 in omega arith;
+            few_cuts = let h = showing.few_cuts in let b = bounds.most_cuts in omega arith;
+            few_faults = let h = showing.few_faults in let b = bounds.most_faults in omega arith;
+          },
+        )
+    by s showing live sh to Failed down can cause bounds shows =
+        let r = rose old.run.machine.faults new.run.machine.faults old.run.machine.most_faults s.fail_armed showing.faults showing.most_faults showing.few_faults cause.0 in
+        let c : new.run.machine.faults ≤ old.run.machine.most_faults = cause.0.0 in (
+          disarmed s Eio to,
+          (Eio, refl, both_true s.fail_armed (can_fail live.world call Eio) r.0 (can Eio refl), refl),
+          record {
+            now = shows Eio down;
+            cuts = let h = showing.cuts in let b = bounds.most_cuts in let f = cause.1 in omega arith;
+            faults = let b = bounds.most_faults in omega arith;
+            most_cuts = let h = showing.most_cuts in let b = bounds.most_cuts in let f = cause.1 in omega arith;
+            most_faults = let b = bounds.most_faults in omega arith;
+            few_cuts = let h = showing.few_cuts in let b = bounds.most_cuts in omega arith;
+            few_faults = let h = showing.few_faults in let b = bounds.most_faults in omega arith;
+          },
+        )
+    by s showing live sh to Memory down can cause bounds shows = (
+      disarmed s NoMem to,
+      (NoMem, refl, both_true true (can_fail live.world call NoMem) refl (can NoMem refl), refl),
+      record {
+        now = shows NoMem down;
+        cuts = let h = showing.cuts in let b = bounds.most_cuts in let f = cause.0 in omega arith;
+        faults = let h = showing.faults in let b = bounds.most_faults in let f = cause.1 in omega arith;
+        most_cuts = let h = showing.most_cuts in let b = bounds.most_cuts in let f = cause.0 in omega arith;
+        most_faults = let h = showing.most_faults in let b = bounds.most_faults in let f = cause.1 in omega arith;
+        few_cuts = let h = showing.few_cuts in let b = bounds.most_cuts in omega arith;
+        few_faults = let h = showing.few_faults in let b = bounds.most_faults in omega arith;
+      },
+    )

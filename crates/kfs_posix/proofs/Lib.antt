@@ -1,0 +1,10 @@
+pub mod Past
+pub mod Changing
+pub mod Going
+pub mod Calls
+pub mod Mkdir
+pub mod Mounting
+pub mod Looking
+pub mod Fault
+pub mod Answered
+pub mod Planning

@@ -1,0 +1,117 @@
+-- Planned cuts and faults, as events of a life.
+use Rattle.std.proofs.Common.{◌≡◌, ℕ, ◌<◌, ◌≤◌, ◌+◌, ◌-◌, ◌^◌, min, true, Option, refl, ◌∙◌, arith, subst, sym}
+use Rattle.kv_device.specs.Machine.{Machine, view, with_most_cuts, with_most_faults}
+use Rattle.kfs_path.specs.declared.call.Reply.TheVariants as replies
+use Rattle.kfs_model.specs.declared.Line.TheVariants as lines
+use Rattle.kfs_model.specs.declared.Answer.TheVariants as answers
+use Rattle.kfs_model.specs.Life.{State, Now, Up, Down, Live, EventAt}
+use Rattle.kfs_shows.specs.Shows.{Shows}
+use Rattle.kfs_tx.specs.Run.{Run, seen}
+use Rattle.kfs_path.specs.declared.call.Cause.{Cause}
+use Rattle.kfs_core.specs.Core.{KfsState, run_in, Stays}
+use Rattle.kfs_posix.specs.Book.{Book, SessionState, state_of, book_of, limits_of}
+use Rattle.kfs_posix.proofs.Fault.{stays_book}
+use Rattle.kfs_posix.specs.Showing.{ShowsLive, ShowsNow, ShowsState, GoesOn}
+
+-- other bounds on the counts
+abbrev bounded : Run → ℕ → ℕ → Run
+bounded r cuts faults = record r { machine = record r.machine { most_cuts = cuts; most_faults = faults } }
+
+abbrev pub planned_run : Run → Run
+planned_run r = record r { machine = with_most_cuts r.machine }
+
+abbrev pub failing_run : Run → ℕ → Run
+failing_run r most = record r { machine = with_most_faults r.machine most }
+
+same_seen : (r : Run) (cuts faults : ℕ) → seen (bounded r cuts faults) ≡ seen r
+unfolding view
+same_seen r cuts faults = refl
+
+abbrev bounded_book : Book → ℕ → ℕ → Book
+bounded_book b cuts faults = record b { run = bounded b.run cuts faults }
+
+abbrev planned_book : Book → Book
+planned_book b = record b { run = planned_run b.run }
+
+abbrev failing_book : Book → ℕ → Book
+failing_book b most = record b { run = failing_run b.run most }
+
+still_live : (b : Book) (cuts faults : ℕ) (live : Live) → ShowsLive b live → ShowsLive (bounded_book b cuts faults) live
+still_live b cuts faults live sh = record {
+  up = sh.up;
+  ready = record { up = sh.ready.up; alone = sh.ready.alone };
+  tree = sh.tree;
+  low = sh.low;
+  few_changes = sh.few_changes;
+  whole = sh.whole;
+  sees = subst (λ m. Shows m live.world.tree live.past.count) (sym (same_seen b.run cuts faults)) sh.sees;
+  saved = sh.saved;
+  newest = sh.newest;
+  behind = sh.behind;
+  desk = sh.desk;
+  count = sh.count;
+  next = sh.next;
+  changes = sh.changes;
+  weight = sh.weight;
+  light = sh.light;
+  few = sh.few;
+  keys = sh.keys;
+  pages = sh.pages;
+  charged = sh.charged;
+  room = sh.room;
+}
+
+still_shows : (b : Book) (cuts faults : ℕ) (now : Now) → ShowsNow b now → ShowsNow (bounded_book b cuts faults) now
+still_shows b cuts faults (Up live) sh = still_live b cuts faults live sh
+still_shows b cuts faults (Down past may) sh = record { cause = sh.cause; down = sh.down; stands = sh.stands; may_be = sh.may_be; saved = sh.saved; keys = sh.keys; pages = sh.pages }
+
+pub plan_goes : (b : Book) (n how : ℕ) → b.run.machine.cuts + 1 < 2 ^ 63 → GoesOn b (lines.Cut n how) (answers.Reply replies.Done) (planned_book b)
+plan_goes b n how few = record { each = λ s showing. by s showing s.now showing.now }
+  where
+    shown : (s : State) → ShowsState b s → (now : Now) → ShowsNow b now → ShowsState (planned_book b) (record { now = now; cut_armed = true; fail_armed = s.fail_armed })
+    shown s showing now sh = record {
+      now = still_shows b (with_most_cuts b.run.machine).most_cuts b.run.machine.most_faults now sh;
+      cuts = omega arith;
+      faults = showing.faults;
+      most_cuts = let h = showing.most_cuts in let f = showing.few_cuts in omega arith;
+      most_faults = showing.most_faults;
+      few_cuts = omega arith;
+      few_faults = showing.few_faults;
+    }
+
+    by : (s : State) → ShowsState b s → (now : Now) → ShowsNow b now → (t : State) × EventAt (limits_of b) s now (lines.Cut n how) (answers.Reply replies.Done) t × ShowsState (planned_book b) t
+    by s showing (Up live) sh = (record { now = Up live; cut_armed = true; fail_armed = s.fail_armed }, (refl, refl), shown s showing (Up live) sh)
+    by s showing (Down past may) sh = (record { now = Down past may; cut_armed = true; fail_armed = s.fail_armed }, (refl, refl), shown s showing (Down past may) sh)
+
+pub plan_by : (old : SessionState) (k0 k1 : KfsState) (d : Option Cause) (n how : ℕ) → state_of k0 d ≡ old → Stays k0 k1 → run_in k1 ≡ planned_run (run_in k0) → old.book.run.machine.cuts + 1 < 2 ^ 63 → GoesOn old.book (lines.Cut n how) (answers.Reply replies.Done) (book_of k1 d)
+plan_by old k0 k1 d n how is rest planned few =
+    let e : book_of k1 d ≡ planned_book (book_of k0 d) = stays_book k0 k1 d rest ∙ (λ i. record (book_of k0 d) { run = planned i }) in
+    let low : (run_in k0).machine.cuts + 1 < 2 ^ 63 = subst (λ (s : SessionState). s.book.run.machine.cuts + 1 < 2 ^ 63) (sym is) few in
+    subst (λ (s : SessionState). GoesOn s.book (lines.Cut n how) (answers.Reply replies.Done) (book_of k1 d)) is
+    (subst (λ c. GoesOn (book_of k0 d) (lines.Cut n how) (answers.Reply replies.Done) c) (sym e) (plan_goes (book_of k0 d) n how low))
+
+pub fail_goes : (b : Book) (kind n most : ℕ) → b.run.machine.faults ≤ most → most ≤ min (b.run.machine.faults + 1) (2 ^ 64 - 1) → b.run.machine.faults + 1 < 2 ^ 63 → GoesOn b (lines.Fail kind n) (answers.Reply replies.Done) (failing_book b most)
+fail_goes b kind n most fewest least few = record { each = λ s showing. by s showing s.now showing.now }
+  where
+    shown : (s : State) → ShowsState b s → (now : Now) → ShowsNow b now → ShowsState (failing_book b most) (record { now = now; cut_armed = s.cut_armed; fail_armed = true })
+    shown s showing now sh = record {
+      now = still_shows b b.run.machine.most_cuts most now sh;
+      cuts = showing.cuts;
+      faults = omega arith;
+      most_cuts = showing.most_cuts;
+      most_faults = fewest;
+      few_cuts = showing.few_cuts;
+      few_faults = omega arith;
+    }
+
+    by : (s : State) → ShowsState b s → (now : Now) → ShowsNow b now → (t : State) × EventAt (limits_of b) s now (lines.Fail kind n) (answers.Reply replies.Done) t × ShowsState (failing_book b most) t
+    by s showing (Up live) sh = (record { now = Up live; cut_armed = s.cut_armed; fail_armed = true }, (refl, refl), shown s showing (Up live) sh)
+    by s showing (Down past may) sh = (record { now = Down past may; cut_armed = s.cut_armed; fail_armed = true }, (refl, refl), shown s showing (Down past may) sh)
+
+pub fail_by : (old : SessionState) (k0 k1 : KfsState) (d : Option Cause) (kind n most : ℕ) → state_of k0 d ≡ old → Stays k0 k1 → run_in k1 ≡ failing_run (run_in k0) most
+    → (run_in k0).machine.faults ≤ most → most ≤ min ((run_in k0).machine.faults + 1) (2 ^ 64 - 1) → old.book.run.machine.faults + 1 < 2 ^ 63 → GoesOn old.book (lines.Fail kind n) (answers.Reply replies.Done) (book_of k1 d)
+fail_by old k0 k1 d kind n most is rest planned fewest least few =
+    let e : book_of k1 d ≡ failing_book (book_of k0 d) most = stays_book k0 k1 d rest ∙ (λ i. record (book_of k0 d) { run = planned i }) in
+    let low : (run_in k0).machine.faults + 1 < 2 ^ 63 = subst (λ (s : SessionState). s.book.run.machine.faults + 1 < 2 ^ 63) (sym is) few in
+    subst (λ (s : SessionState). GoesOn s.book (lines.Fail kind n) (answers.Reply replies.Done) (book_of k1 d)) is
+    (subst (λ c. GoesOn (book_of k0 d) (lines.Fail kind n) (answers.Reply replies.Done) c) (sym e) (fail_goes (book_of k0 d) kind n most fewest least low))

@@ -1,0 +1,32 @@
+-- Which counts rose in a call, and what the session keeps of it, by the reply.
+use Rattle.std.specs.Prelude.{◌≡◌, Option, Some, None, IsSome}
+use Rattle.kv_device.specs.Machine.{Machine}
+use Rattle.kv_device.specs.Calls.{Rises}
+use Rattle.kfs_path.specs.declared.call.Cause.{Cause}
+use Rattle.kfs_path.specs.declared.call.Cause.TheVariants.{Cut, Eio, NoMem}
+use Rattle.kfs_path.specs.declared.call.Reply.{Reply}
+use Rattle.kfs_path.specs.declared.call.Reply.TheVariants.{Down, Off, Err}
+use Rattle.kfs_core.specs.declared.fault.CoreFault.{CoreFault}
+use Rattle.kfs_core.specs.declared.fault.CoreFault.TheVariants.{No, Device}
+use Rattle.kfs_posix.specs.Book.{Book, cause_of}
+
+-- the cuts rose exactly where it is down by a cut, the faults exactly where it is down by a fault
+abbrev pub Counts : Machine → Reply → Machine → Type 0
+Counts old (Down Cut) new = Rises old.cuts new.cuts old.most_cuts × (new.faults ≡ old.faults)
+Counts old (Down Eio) new = Rises old.faults new.faults old.most_faults × (new.cuts ≡ old.cuts)
+Counts old reply new = (new.cuts ≡ old.cuts) × (new.faults ≡ old.faults)
+
+-- it goes down exactly at an answer that says so, answers so while it is down, and keeps the cause
+abbrev pub KeepsCause : Book → Reply → Book → Type 0
+KeepsCause old (Down cause) new = (old.down ≡ None) × (new.down ≡ Some cause)
+KeepsCause old Off new = IsSome old.down × (new ≡ old)
+KeepsCause old reply new = (old.down ≡ None) × (new.down ≡ None)
+
+-- the answer to a fault, and the cause that is kept after it
+abbrev pub refusal : CoreFault → Reply
+refusal (No errno) = Err errno
+refusal (Device fault) = Down (cause_of fault)
+
+abbrev pub down_after : Option Cause → CoreFault → Option Cause
+down_after down (No errno) = down
+down_after down (Device fault) = Some (cause_of fault)

@@ -1,0 +1,68 @@
+-- What a session keeps.
+use Rattle.std.specs.Prelude.{ℕ, zero, suc, ◌≡◌, Option, refl}
+use Rattle.std.specs.Coded.{Coded, code_by, coded×, coded_ℕ, coded_option}
+use Rattle.kv_device.specs.declared.fault.DeviceFault.{DeviceFault}
+use Rattle.kv_device.specs.declared.fault.DeviceFault.TheVariants.{Off, Failed}
+use Rattle.kfs_path.specs.declared.call.Cause.{Cause}
+use Rattle.kfs_path.specs.declared.call.Cause.TheVariants.{Cut, Eio, NoMem}
+use Rattle.kfs_model.specs.Tree.{Limits}
+use Rattle.kfs_tx.specs.Run.{Run, RunState}
+use Rattle.kfs_tx.specs.Codes.{run_code}
+use Rattle.kfs_core.specs.Core.{KfsState}
+
+pub record Book : Type 0 where
+  pub run : Run
+  pub keys : ℕ
+  pub pages : ℕ
+  pub charge : ℕ
+  pub down : Option Cause
+
+-- a session, as its callers see it
+pub record SessionState : Type 0 where
+  pub book : Book
+  pub device_age : ℕ
+
+abbrev pub book_of : KfsState → Option Cause → Book
+book_of kfs down = record { run = kfs.running.run; keys = kfs.keys; pages = kfs.pages; charge = kfs.charge; down = down }
+
+abbrev pub state_of : KfsState → Option Cause → SessionState
+state_of kfs down = record { book = book_of kfs down; device_age = kfs.running.device_age }
+
+-- its running transaction
+abbrev pub running_in : SessionState → RunState
+running_in s = record { run = s.book.run; device_age = s.device_age }
+
+abbrev pub limits_of : Book → Limits
+limits_of b = record { keys = b.keys; pages = b.pages }
+
+abbrev pub cause_of : DeviceFault → Cause
+cause_of Off = Cut
+cause_of Failed = Eio
+cause_of fault = NoMem
+
+-- ---- codes, by which proofs tell the states apart
+
+abbrev pub number_of : Cause → ℕ
+number_of Cut = 0
+number_of Eio = 1
+number_of NoMem = 2
+
+abbrev pub cause_at : ℕ → Cause
+cause_at zero = Cut
+cause_at (suc zero) = Eio
+cause_at (suc (suc n)) = NoMem
+
+abbrev pub cause_at-number_of : (c : Cause) → cause_at (number_of c) ≡ c
+cause_at-number_of Cut = refl
+cause_at-number_of Eio = refl
+cause_at-number_of NoMem = refl
+
+abbrev pub book_code : Coded Book
+book_code =
+    code_by (Run × (ℕ × (ℕ × (ℕ × Option Cause)))) (coded× run_code (coded× coded_ℕ (coded× coded_ℕ (coded× coded_ℕ (coded_option (code_by ℕ coded_ℕ number_of cause_at cause_at-number_of))))))
+    (λ b. (b.run, (b.keys, (b.pages, (b.charge, b.down)))))
+    (λ p. record { run = p.0; keys = p.1.0; pages = p.1.1.0; charge = p.1.1.1.0; down = p.1.1.1.1 })
+    (λ _. refl)
+
+abbrev pub session_code : Coded SessionState
+session_code = code_by (Book × ℕ) (coded× book_code coded_ℕ) (λ s. (s.book, s.device_age)) (λ p. record { book = p.0; device_age = p.1 }) (λ _. refl)

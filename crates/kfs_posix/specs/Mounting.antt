@@ -1,0 +1,23 @@
+-- What a mount finds, and what it gives.
+use Rattle.std.specs.Prelude.{ℕ, ◌≡◌}
+use Rattle.kv_device.specs.Machine.{Machine}
+use Rattle.kfs_model.specs.Tree.{Tree, Limits, IsTree, IsKept}
+use Rattle.kfs_model.specs.Life.{Past, tree_at, up_at}
+use Rattle.kfs_shows.specs.Shows.{Shows}
+use Rattle.kfs_posix.specs.Book.{Book}
+use Rattle.kfs_posix.specs.Showing.{ShowsLive, IsSaved}
+
+abbrev pub limits_in : Machine → Limits
+limits_in m = record { keys = m.room_keys; pages = m.room_pages }
+
+-- the device holds the tree after k changes
+abbrev pub IsStored : Machine → Tree → ℕ → Type 0
+IsStored m t k = IsSaved (limits_in m) m.stable t k
+
+-- whatever it holds, the session goes on from there
+pub record Mounts (old : Machine) (new : Book) : Type 0 where
+  pub each : (past : Past) (k : ℕ) → IsStored old (tree_at past k) k → (new.run.changes ≡ k) × ShowsLive new (up_at past k)
+
+-- whatever it held, it holds the same tree still, or that without some nameless nodes
+pub record Keeps (old new : Machine) : Type 0 where
+  pub each : (t : Tree) (k : ℕ) → IsTree t → Shows old.stable t k → (kept : Tree) × IsKept t kept × Shows new.stable kept k

@@ -1,0 +1,76 @@
+-- The state of a life that a session shows.
+use Rattle.std.specs.Prelude.{ℕ, ◌≡◌, ◌<◌, ◌≤◌, ◌^◌, ◌+◌, Bool, true, List, Some, None, if◌then◌else◌}
+use Rattle.kfs_path.specs.declared.call.Cause.{Cause}
+use Rattle.kfs_model.specs.declared.Answer.{Answer}
+use Rattle.kfs_model.specs.declared.Line.{Line}
+use Rattle.kv_device.specs.Objects.{Objects}
+use Rattle.kfs_model.specs.Tree.{Tree, Limits, charge, has_room, IsTree}
+use Rattle.kfs_model.specs.Desk.{empty_desk}
+use Rattle.kfs_model.specs.Life.{State, Live, Now, Up, Down, Past, tree_at, Event, AnyOf}
+use Rattle.kfs_shows.specs.Shows.{Shows}
+use Rattle.kfs_shows.specs.Named.{AllNamed}
+use Rattle.kfs_tx.specs.Run.{IsReady, seen, changed_keys}
+use Rattle.kfs_posix.specs.Book.{Book, limits_of}
+
+-- the objects stand for the tree after n changes: they show it, with room, and no node of it is nameless
+pub record IsSaved (k : Limits) (m : Objects) (t : Tree) (n : ℕ) : Type 0 where
+  pub tree : IsTree t
+  pub shows : Shows m t n
+  pub next : t.next < 2 ^ 63
+  pub count : n < 2 ^ 63
+  pub room : has_room k t ≡ true
+  pub whole : AllNamed t
+
+-- an up session: the transaction's view shows the live tree, and `stable` the tree at mark
+pub record ShowsLive (b : Book) (live : Live) : Type 0 where
+  pub up : b.down ≡ None
+  pub ready : IsReady b.run
+  pub tree : IsTree live.world.tree
+  pub low : live.world.tree.next < 2 ^ 63
+  pub few_changes : live.past.count < 2 ^ 63
+  pub whole : AllNamed live.world.tree
+  pub sees : Shows (seen b.run) live.world.tree live.past.count
+  pub saved : IsSaved (limits_of b) b.run.machine.stable (tree_at live.past live.mark) live.mark
+  pub newest : tree_at live.past live.past.count ≡ live.world.tree
+  pub behind : live.mark ≤ live.past.count
+  pub desk : live.world.desk ≡ empty_desk
+  pub count : b.run.changes ≡ live.past.count
+  pub next : b.run.next ≡ live.world.tree.next
+  pub changes : b.run.since ≡ live.since.changes
+  pub weight : b.run.weight ≡ live.since.weight
+  pub light : b.run.weight < 256
+  pub few : changed_keys b.run ≤ b.run.weight
+  pub keys : b.keys ≡ b.run.machine.room_keys
+  pub pages : b.pages ≡ b.run.machine.room_pages
+  pub charged : b.charge ≡ charge live.world.tree
+  pub room : has_room (limits_of b) live.world.tree ≡ true
+
+-- a session that is down: `stable` shows the tree after k changes, for a k that may stand
+pub record ShowsDown (b : Book) (past : Past) (may : List ℕ) : Type 0 where
+  pub cause : Cause
+  pub down : b.down ≡ Some cause
+  pub stands : ℕ
+  pub may_be : AnyOf may stands
+  pub saved : IsSaved (limits_of b) b.run.machine.stable (tree_at past stands) stands
+  pub keys : b.keys ≡ b.run.machine.room_keys
+  pub pages : b.pages ≡ b.run.machine.room_pages
+
+abbrev pub ShowsNow : Book → Now → Type 0
+ShowsNow b (Up live) = ShowsLive b live
+ShowsNow b (Down past may) = ShowsDown b past may
+
+abbrev pub one_if : Bool → ℕ
+one_if armed = if armed then 1 else 0
+
+pub record ShowsState (b : Book) (s : State) : Type 0 where
+  pub now : ShowsNow b s.now
+  pub cuts : b.run.machine.most_cuts ≤ b.run.machine.cuts + one_if s.cut_armed
+  pub faults : b.run.machine.most_faults ≤ b.run.machine.faults + one_if s.fail_armed
+  pub most_cuts : b.run.machine.cuts ≤ b.run.machine.most_cuts
+  pub most_faults : b.run.machine.faults ≤ b.run.machine.most_faults
+  pub few_cuts : b.run.machine.most_cuts < 2 ^ 63
+  pub few_faults : b.run.machine.most_faults < 2 ^ 63
+
+-- the line and its answer lead from each state that old shows to one that new shows
+pub record GoesOn (old : Book) (line : Line) (answer : Answer) (new : Book) : Type 0 where
+  pub each : (s : State) → ShowsState old s → (t : State) × Event (limits_of old) s line answer t × ShowsState new t

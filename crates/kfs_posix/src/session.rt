@@ -1,0 +1,257 @@
+// A session: the file calls over a device, as a life.
+ghost use Rattle.std.specs.Prelude.{◌≡◌, ◌≤◌, ◌<◌, ◌+◌, ◌-◌, ◌^◌, true, None, IfOk, OnOk, IfErr};
+ghost use Rattle.kv_device.specs.Machine.{none_open, begun};
+ghost use Rattle.kv_device.specs.Calls.{Ages};
+ghost use Rattle.kfs_tx.specs.Run.{age_of, Aged};
+ghost use Rattle.kfs_core.specs.Starting.{NotMounted};
+ghost use Rattle.kfs_posix.specs.Answering.{Counts, KeepsCause, refusal, down_after};
+ghost use Rattle.kfs_posix.specs.Book.{cause_of};
+
+use crate::paths::{found, make, names};
+use kfs_core::{CoreFault, HostFault, Kfs};
+use kfs_path::{Call, Cause, Reply};
+use kv_device::{Device, DeviceFault, PlannedDevice};
+use std::alloc::Global;
+use std::marker::Model;
+
+/// The file calls over a device. It is up until a call answers that it is down, and then answers
+/// so until it is mounted again.
+#[derive(Drop)]
+pub struct Session<D: Device> {
+    kfs: Kfs<D>,
+    down: Option<Cause>,
+}
+
+impl<D: Device> Model for Session<D> {
+    ghost use Rattle.std.specs.Prelude.{◌≡◌, true, None};
+    ghost use Rattle.kfs_posix.specs.Book.{SessionState, session_code, state_of};
+
+    ghost Value = { SessionState };
+
+    ghost coded = { session_code };
+
+    ghost view = { λ s. state_of s.kfs s.down };
+
+    ghost invariant = { λ s. s.down ≡ None → s.kfs.running.run.machine.up ≡ true };
+}
+
+fn cause_of(fault: &DeviceFault) -> Cause
+    ensures { result ≡ cause_of fault.now }
+{
+    match fault {
+        DeviceFault::Off => Cause::Cut,
+        DeviceFault::Failed => Cause::Eio,
+        _ => Cause::NoMem,
+    }
+}
+
+/// The answer to a fault, which takes the session down where it isn't an error of the call.
+fn refuse(down: &mut Option<Cause>, fault: CoreFault) -> Reply
+    ensures reply { result ≡ refusal fault }
+    ensures down { down.new ≡ down_after down.old fault }
+{
+    match fault {
+        CoreFault::No(errno) => Reply::Err(errno),
+        CoreFault::Device(fault) => {
+            let cause = cause_of(&fault);
+            *down = Some(cause);
+            Reply::Down(cause)
+        }
+    }
+}
+
+impl<D: Device> Session<D> {
+    ghost use Rattle.kfs_path.specs.declared.call.Call.TheVariants as calls;
+    ghost use Rattle.kfs_model.specs.declared.Line.TheVariants as lines;
+    ghost use Rattle.kfs_model.specs.declared.Answer.TheVariants as answers;
+    ghost use Rattle.kfs_posix.specs.Book.{running_in, limits_of};
+    ghost use Rattle.kfs_posix.specs.Built.{is_built};
+    ghost use Rattle.kfs_posix.specs.Mounting.{Mounts, Keeps};
+    ghost use Rattle.kfs_posix.specs.Showing.{GoesOn};
+
+    /// Goes on from the tree that the device holds, with no descriptor open.
+    pub fn mount(alloc: Global, device: D) -> Result<Session<D>, (D, HostFault)>
+        requires age { D.age device < 2 ^ 63 - 2 ^ 40 }
+        requires up { (D.machine device).up ≡ true }
+        requires idle { (D.machine device).pending ≡ none_open }
+        requires room { (D.machine device).room_keys ≤ 68544 }
+        ensures ok { IfOk result (λ s. Mounts (D.machine device) s.book) }
+        ensures begun { IfOk result (λ s. s.book.run.machine ≡ begun (D.machine device) 0) }
+        ensures up { IfOk result (λ s. s.book.down ≡ None) }
+        ensures keys { IfOk result (λ s. s.book.keys ≡ (D.machine device).room_keys) }
+        ensures changes { IfOk result (λ s. s.book.run.changes < 2 ^ 62) }
+        ensures next { IfOk result (λ s. s.book.run.next < 2 ^ 62) }
+        ensures err { IfErr result (λ e. NotMounted (D.machine device) e.1 (D.machine e.0)) }
+        ensures kept { IfErr result (λ e. Keeps (D.machine device) (D.machine e.0)) }
+        ensures age { IfOk result (λ s. Ages (D.age device) s.device_age (2 ^ 38)) }
+        ensures age_left { IfErr result (λ e. Ages (D.age device) (D.age e.0) (2 ^ 38)) }
+    {
+        match Kfs::mount(alloc, device) {
+            Ok(kfs) => Ok(Session { kfs, down: None }),
+            Err((device, fault)) => Err((device, fault)),
+        }
+    }
+
+    /// Makes a directory.
+    pub fn mkdir(&mut self, alloc: Global, path: &[u8]) -> Reply
+        requires { age_of (running_in self.old) < 2 ^ 63 - 2 ^ 40 }
+        ensures goes_on { GoesOn self.old.book (lines.Call (calls.Mkdir path.now)) (answers.Reply result) self.new.book }
+        ensures counts { Counts self.old.book.run.machine result self.new.book.run.machine }
+        ensures room { limits_of self.new.book ≡ limits_of self.old.book }
+        ensures down { KeepsCause self.old.book result self.new.book }
+        ensures age { Aged (running_in self.old) (running_in self.new) (2 ^ 38) }
+    {
+        if self.down.is_some() {
+            return Reply::Off;
+        }
+        match make(alloc, &mut self.kfs, path) {
+            Ok(()) => Reply::Done,
+            Err(fault) => refuse(&mut self.down, fault),
+        }
+    }
+
+    /// What a path names.
+    pub fn stat(&mut self, alloc: Global, path: &[u8]) -> Reply
+        requires { age_of (running_in self.old) < 2 ^ 63 - 2 ^ 40 }
+        ensures goes_on { GoesOn self.old.book (lines.Call (calls.Stat path.now)) (answers.Reply result) self.new.book }
+        ensures counts { Counts self.old.book.run.machine result self.new.book.run.machine }
+        ensures room { limits_of self.new.book ≡ limits_of self.old.book }
+        ensures down { KeepsCause self.old.book result self.new.book }
+        ensures age { Aged (running_in self.old) (running_in self.new) (2 ^ 38) }
+    {
+        if self.down.is_some() {
+            return Reply::Off;
+        }
+        match found(alloc, &mut self.kfs, path) {
+            Ok((node, it)) => {
+                if it.kind == 1 {
+                    return Reply::Dir { node };
+                }
+                Reply::File {
+                    node,
+                    length: it.length,
+                }
+            }
+            Err(fault) => refuse(&mut self.down, fault),
+        }
+    }
+
+    /// The names in a directory, sorted by bytes.
+    pub fn list(&mut self, alloc: Global, path: &[u8]) -> Reply
+        requires room { self.old.book.keys ≤ 68544 }
+        requires age { age_of (running_in self.old) < 2 ^ 63 - 2 ^ 40 }
+        ensures goes_on { GoesOn self.old.book (lines.Call (calls.List path.now)) (answers.Reply result) self.new.book }
+        ensures counts { Counts self.old.book.run.machine result self.new.book.run.machine }
+        ensures room { limits_of self.new.book ≡ limits_of self.old.book }
+        ensures down { KeepsCause self.old.book result self.new.book }
+        ensures age { Aged (running_in self.old) (running_in self.new) (2 ^ 38) }
+    {
+        if self.down.is_some() {
+            return Reply::Off;
+        }
+        match names(alloc, &mut self.kfs, path) {
+            Ok(names) => Reply::Names(names),
+            Err(fault) => refuse(&mut self.down, fault),
+        }
+    }
+
+    /// Commits all changes.
+    pub fn sync(&mut self, alloc: Global) -> Reply
+        requires { age_of (running_in self.old) < 2 ^ 63 - 2 ^ 40 }
+        ensures goes_on { GoesOn self.old.book (lines.Call calls.Sync) (answers.Reply result) self.new.book }
+        ensures counts { Counts self.old.book.run.machine result self.new.book.run.machine }
+        ensures room { limits_of self.new.book ≡ limits_of self.old.book }
+        ensures down { KeepsCause self.old.book result self.new.book }
+        ensures age { Aged (running_in self.old) (running_in self.new) (2 ^ 38) }
+    {
+        if self.down.is_some() {
+            return Reply::Off;
+        }
+        match self.kfs.commit(alloc) {
+            Ok(()) => Reply::Done,
+            Err(fault) => refuse(&mut self.down, fault),
+        }
+    }
+
+    /// Does the call that is named, one of those that are built.
+    pub fn step(&mut self, alloc: Global, call: &Call) -> Reply
+        requires built { is_built call.now ≡ true }
+        requires room { self.old.book.keys ≤ 68544 }
+        requires age { age_of (running_in self.old) < 2 ^ 63 - 2 ^ 40 }
+        ensures goes_on { GoesOn self.old.book (lines.Call call.now) (answers.Reply result) self.new.book }
+        ensures counts { Counts self.old.book.run.machine result self.new.book.run.machine }
+        ensures room { limits_of self.new.book ≡ limits_of self.old.book }
+        ensures down { KeepsCause self.old.book result self.new.book }
+        ensures age { Aged (running_in self.old) (running_in self.new) (2 ^ 38) }
+    {
+        match call {
+            Call::Mkdir { path } => self.mkdir(alloc, path.bytes()),
+            Call::Stat { path } => self.stat(alloc, path.bytes()),
+            Call::List { path } => self.list(alloc, path.bytes()),
+            _ => self.sync(alloc),
+        }
+    }
+
+    /// The cause by which it is down, where it is.
+    pub fn is_down(&self) -> Option<Cause>
+        ensures { result ≡ self.now.book.down }
+    {
+        self.down
+    }
+
+    /// How many changes there were since the format, up to the one that the session is at.
+    pub fn changes(&self) -> u64
+        ensures { result ≡ self.now.book.run.changes }
+    {
+        self.kfs.changes()
+    }
+
+    pub fn into_device(self) -> D
+        ensures machine { D.machine result ≡ self.book.run.machine }
+        ensures age { D.age result ≡ self.device_age }
+    {
+        self.kfs.into_device()
+    }
+}
+
+impl<D: PlannedDevice> Session<D> {
+    ghost use Rattle.std.specs.Prelude.{◌≡◌, ◌≤◌, ◌<◌, ◌+◌, ◌-◌, ◌^◌, min};
+    ghost use Rattle.kv_device.specs.Machine.{with_most_cuts, with_most_faults};
+    ghost use Rattle.kfs_path.specs.declared.call.Reply.TheVariants as replies;
+    ghost use Rattle.kfs_model.specs.declared.Line.TheVariants as lines;
+    ghost use Rattle.kfs_model.specs.declared.Answer.TheVariants as answers;
+    ghost use Rattle.kfs_tx.specs.Run.{age_of};
+    ghost use Rattle.kfs_posix.specs.Book.{running_in, limits_of};
+    ghost use Rattle.kfs_posix.specs.Showing.{GoesOn};
+
+    /// Plans a cut of power in the n-th operation from now that programs or erases. It leaves the
+    /// operation undone with `how` 0, in part with 1, mixed with 2 and done with 3.
+    pub fn plan_cut(&mut self, n: u32, how: u8)
+        requires n { 1 ≤ n }
+        requires how { how ≤ 3 }
+        ensures goes_on { self.old.book.run.machine.cuts + 1 < 2 ^ 63 → GoesOn self.old.book (lines.Cut n how) (answers.Reply replies.Done) self.new.book }
+        ensures planned { self.new.book.run.machine ≡ with_most_cuts self.old.book.run.machine }
+        ensures room { limits_of self.new.book ≡ limits_of self.old.book }
+        ensures down { self.new.book.down ≡ self.old.book.down }
+        ensures age { self.new.device_age ≡ self.old.device_age }
+        ensures numbers { age_of (running_in self.new) ≡ age_of (running_in self.old) }
+    {
+        self.kfs.plan_cut(n, how);
+    }
+
+    /// Plans a fault of the n-th read (kind 0), program (1) or erase (2) from now.
+    pub fn plan_fail(&mut self, kind: u8, n: u32)
+        requires n { 1 ≤ n }
+        requires kind { kind ≤ 2 }
+        ensures goes_on { self.old.book.run.machine.faults + 1 < 2 ^ 63 → GoesOn self.old.book (lines.Fail kind n) (answers.Reply replies.Done) self.new.book }
+        ensures planned { self.new.book.run.machine ≡ with_most_faults self.old.book.run.machine self.new.book.run.machine.most_faults }
+        ensures fewest { self.old.book.run.machine.faults ≤ self.new.book.run.machine.most_faults }
+        ensures most { self.new.book.run.machine.most_faults ≤ min (self.old.book.run.machine.faults + 1) (2 ^ 64 - 1) }
+        ensures room { limits_of self.new.book ≡ limits_of self.old.book }
+        ensures down { self.new.book.down ≡ self.old.book.down }
+        ensures age { self.new.device_age ≡ self.old.device_age }
+        ensures numbers { age_of (running_in self.new) ≡ age_of (running_in self.old) }
+    {
+        self.kfs.plan_fail(kind, n);
+    }
+}
