@@ -1,0 +1,4 @@
+pub mod Filling
+pub mod Loop
+pub mod Again
+pub mod Spelled

@@ -1,0 +1,4 @@
+pub mod Sizes
+pub mod Spelling
+pub mod Packing
+pub mod Reading

@@ -1,0 +1,76 @@
+-- What each call of a flash answers, and what it leaves.
+use Rattle.std.specs.Prelude.{◌≡◌, ◌⊎◌, ◌≤◌, ◌+◌, ◌-◌, ◌^◌, ℕ, true, false, List, Option, Some, None, min}
+use Rattle.kv_nand.specs.declared.fault.NandFault.{NandFault}
+use Rattle.kv_nand.specs.declared.fault.NandFault.TheVariants.{Off, Failed}
+use Rattle.kv_nand.specs.declared.nand.OpKind.{OpKind}
+use Rattle.kv_nand.specs.declared.nand.PageKind.{PageKind}
+use Rattle.kv_nand.specs.declared.nand.PageKind.TheVariants as kinds
+use Rattle.kv_nand.specs.Flash.{Flash, Image, PageState, Erased, Whole, Cut, with_page, with_erased}
+
+-- a count goes up by one, and stays at its greatest number
+abbrev pub up : ℕ → ℕ
+up n = min (n + 1) (2 ^ 64 - 1)
+
+-- the page is programmed with these bytes
+abbrev pub programmed : Flash → ℕ → List ℕ → Flash
+programmed f page bytes = record f { image = with_page f.image page (Whole bytes); ops = up f.ops }
+
+-- the block is erased
+abbrev pub erased : Flash → ℕ → Flash
+erased f block = record f { image = with_erased f.image block; ops = up f.ops }
+
+-- the power is on
+abbrev pub powered_on : Flash → Flash
+powered_on f = record f { powered = true }
+
+-- a page was read
+abbrev pub has_read : Flash → Flash
+has_read f = record f { reads = up f.reads }
+
+-- power was cut in an operation that left this image
+abbrev pub cut_off : Flash → Image → Flash
+cut_off f image = record f { image = image; powered = false; cuts = up f.cuts; ops = up f.ops }
+
+-- an operation failed and left this image
+abbrev pub failed : Flash → Image → Flash
+failed f image = record f { image = image; faults = up f.faults; ops = up f.ops }
+
+-- a read failed
+abbrev pub read_failed : Flash → Flash
+read_failed f = record f { reads = up f.reads; faults = up f.faults }
+
+-- one more cut may come
+abbrev pub with_most_cuts : Flash → Flash
+with_most_cuts f = record f { most_cuts = up f.cuts }
+
+-- `Off` where there was no power, or power was cut; `Failed` where the operation failed
+abbrev pub Falls : Flash → NandFault → Flash → Type 0
+Falls old Off new = ((old.powered ≡ false) × (new ≡ old)) ⊎ ((old.powered ≡ true) × (new ≡ cut_off old new.image))
+Falls old Failed new = (old.powered ≡ true) × (new ≡ failed old new.image)
+
+-- where a fault was planned, only operations of its kind fail
+abbrev pub MayFail : Option OpKind → OpKind → Type 0
+MayFail None kind = Unit {0}
+MayFail (Some planned) kind = planned ≡ kind
+
+-- the kind of a page's state, and what reading it leaves in the buffer
+abbrev pub Shows : PageState → List ℕ → PageKind → List ℕ → Type 0
+Shows Erased before kind after = (kind ≡ kinds.Erased) × (after ≡ before)
+Shows (Whole bytes) before kind after = (kind ≡ kinds.Whole) × (after ≡ bytes)
+Shows Cut before kind after = (kind ≡ kinds.Cut) × (after ≡ before)
+
+-- the page was read, with power
+pub record ReadDone (old : Flash) (page : ℕ) (before : List ℕ) (kind : PageKind) (filled : List ℕ) (new : Flash) : Type 0 where
+  pub powered : old.powered ≡ true
+  pub shows : Shows (old.image page) before kind filled
+  pub after : new ≡ has_read old
+
+-- the page was not read, and the buffer is as it was
+abbrev pub ReadFault : Flash → List ℕ → NandFault → List ℕ → Flash → Type 0
+ReadFault old before Off after new = (old.powered ≡ false) × (new ≡ old) × (after ≡ before)
+ReadFault old before Failed after new = (old.powered ≡ true) × (new ≡ read_failed old) × (after ≡ before)
+
+-- a fault of this kind is planned: at most one more fault may come
+pub record PlansFault (old : Flash) (kind : OpKind) (new : Flash) : Type 0 where
+  pub most : new.most_faults ≤ up old.faults
+  pub after : new ≡ record old { most_faults = new.most_faults; fails = Some kind }

@@ -1,0 +1,4 @@
+pub mod Faults
+pub mod Flash
+pub mod Calls
+pub mod Working

@@ -1,0 +1,35 @@
+-- What a call that makes several operations leaves of the flash, and how many it began.
+use Rattle.std.specs.Prelude.{◌≡◌, ◌⊎◌, ◌≤◌, ◌+◌, ℕ, true, false}
+use Rattle.kv_nand.specs.declared.fault.FlashFault.{FlashFault}
+use Rattle.kv_nand.specs.declared.fault.FlashFault.TheVariants.{Off, Failed, Memory}
+use Rattle.kv_nand.specs.Flash.{Flash}
+use Rattle.kv_nand.specs.Calls.{up}
+
+-- at most so many operations and reads were begun, and no count fell
+pub record Counts (old new : Flash) (ops reads : ℕ) : Type 0 where
+  pub ops_at_most : new.ops ≤ old.ops + ops
+  pub ops_at_least : old.ops ≤ new.ops
+  pub reads_at_most : new.reads ≤ old.reads + reads
+  pub reads_at_least : old.reads ≤ new.reads
+
+-- only the image and the counts of reads and operations differ
+abbrev pub worked : Flash → Flash → Flash
+worked old new = record old { image = new.image; reads = new.reads; ops = new.ops }
+
+-- it worked with at most so many operations and reads, and nothing else changed
+pub record Works (old new : Flash) (ops reads : ℕ) : Type 0 where
+  pub after : new ≡ worked old new
+  pub counts : Counts old new ops reads
+
+-- it worked, and then stopped by this fault
+abbrev pub StopsBy : Flash → FlashFault → Flash → Type 0
+StopsBy old Off new =
+    ((old.powered ≡ false) × (new ≡ worked old new))
+    ⊎ ((old.powered ≡ true) × (new ≡ record (worked old new) { powered = false; cuts = up old.cuts }))
+StopsBy old Failed new = (old.powered ≡ true) × (new ≡ record (worked old new) { faults = up old.faults })
+StopsBy old Memory new = new ≡ worked old new
+
+-- it stopped by this fault within so many operations and reads, the one that fell counted
+pub record Stops (old : Flash) (fault : FlashFault) (new : Flash) (ops reads : ℕ) : Type 0 where
+  pub after : StopsBy old fault new
+  pub counts : Counts old new ops reads

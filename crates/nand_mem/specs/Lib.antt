@@ -1,0 +1,9 @@
+pub mod Plans
+pub mod Left
+pub mod Slots
+pub mod Machine
+pub mod State
+pub mod MemNand
+pub mod Sound
+pub mod ImageFile
+pub mod Filling
