@@ -1,0 +1,6 @@
+pub mod Streams
+pub mod Coming
+pub mod LinesMore
+pub mod LineCount
+pub mod BuiltLaws
+pub mod SeatLaws

@@ -1,0 +1,22 @@
+-- One line more, with its answer.
+use Rattle.std.proofs.lemmas.List.{take_more}
+use Rattle.std.proofs.lemmas.Grind.{flat_map-append}
+use Rattle.std.proofs.Common.{◌≡◌, ◌<◌, ◌+◌, ◌++◌, ◌∷◌, ◌∙◌, ℕ, List, [], length, take, get_or, sym, ap, subst, append_assoc, append-nil}
+use Rattle.kfs_model.specs.declared.Line.{Line}
+use Rattle.kfs_model.specs.declared.Answer.{Answer}
+use Rattle.kfs_model.specs.Tree.{Limits}
+use Rattle.kfs_model.specs.Life.{State, Life, Event, newborn, life_more}
+use Rattle.kfs_model.specs.AnswerText.{text_of, texts_of}
+
+-- a life goes on by the line at an index
+pub life_at : (k : Limits) (ls : List Line) (i : ℕ) (given : List Answer) (s t : State) (line : Line) (answer : Answer) → i < length ls → line ≡ get_or ls i line → Life k newborn (take i ls) given s → Event k s line answer t → Life k newborn (take (i + 1) ls) (given ++ answer ∷ []) t
+life_at k ls i given s t line answer below is life event =
+    let P : List Line → Type 0 = λ done. Life k newborn done (given ++ answer ∷ []) t in
+    let next : take i ls ++ line ∷ [] ≡ take (i + 1) ls = ap (λ l. take i ls ++ l ∷ []) is ∙ sym (take_more ls i line below) in
+    subst P next (life_more k newborn s t (take i ls) given line answer life event)
+
+-- an answer's text stands behind the texts before it
+pub texts_more : (old text new : List ℕ) (given : List Answer) (answer : Answer) → text ≡ old ++ texts_of given → new ≡ text ++ text_of answer → new ≡ old ++ texts_of (given ++ answer ∷ [])
+texts_more old text new given answer before is =
+    is ∙ ap (λ t. t ++ text_of answer) before ∙ append_assoc old (texts_of given) (text_of answer)
+    ∙ ap (λ t. old ++ t) (ap (λ t. texts_of given ++ t) (sym (append-nil (text_of answer))) ∙ sym (flat_map-append text_of given (answer ∷ [])))

@@ -1,0 +1,106 @@
+-- How a run of the program ends.
+use Rattle.std.specs.Prelude.{None, ℕ, ◌≡◌, ◌⊎◌, ◌++◌, Bool, true, false, nat_lt, if◌then◌else◌, List, [], ◌∷◌, length, codes, Option, Result, Ok, Err, IfSome}
+use Rattle.std.specs.Str.{bytes_eq}
+use Rattle.kfs_path.specs.declared.call.Reply.TheVariants as replies
+use Rattle.kfs_model.specs.declared.Line.{Line}
+use Rattle.kfs_model.specs.declared.Line.TheVariants as lines
+use Rattle.kfs_model.specs.declared.Answer.{Answer}
+use Rattle.kfs_model.specs.declared.Answer.TheVariants as answers
+use Rattle.kfs_model.specs.Life.{State, Life, newborn}
+use Rattle.kfs_model.specs.Script.{script_of}
+use Rattle.kfs_model.specs.AnswerText.{texts_of, and_number, newline}
+use Rattle.kevin.specs.declared.ending.Ending.{Ending}
+use Rattle.kevin.specs.declared.ending.Ending.TheVariants.{Quiet, Prints}
+use Rattle.kevin.specs.Outside.{HasRisen, Takes, TakesSome, IsReadOut}
+use Rattle.kevin.specs.Reading.{script_limit}
+use Rattle.kevin.specs.Numbers.{limits_of}
+
+-- what an end of the program tells: its bytes, where it tells them, and how often it failed
+pub record Side : Type 0 where
+  pub bytes : Option (List ℕ)
+  pub faults : ℕ
+
+abbrev pub side : Option (List ℕ) → ℕ → Side
+side bytes faults = record { bytes = bytes; faults = faults }
+
+-- `run` and one word more
+abbrev pub is_command : List (List ℕ) → Bool
+is_command [] = false
+is_command (word ∷ []) = false
+is_command (word ∷ image ∷ []) = bytes_eq word (codes "run")
+is_command (word ∷ image ∷ more ∷ others) = false
+
+-- what words and a script come to: a status with its text, or the answers to the lines on a new
+-- file system of so many blocks
+pub data Due : Type 0 where
+  Refused : (status : ℕ) (text : List ℕ) → Due
+  Answered : (blocks : ℕ) (lines : List Line) → Due
+
+abbrev pub bad_words : List ℕ
+bad_words = codes "bad words" ++ newline
+
+abbrev pub bad_line : ℕ → List ℕ
+bad_line number = codes "line" ++ and_number number ++ newline
+
+abbrev pub bad_image : List ℕ
+bad_image = codes "bad image" ++ newline
+
+abbrev pub too_long : List ℕ
+too_long = codes "script too long" ++ newline
+
+-- there is no image yet, so a script begins with a format
+abbrev pub due_by : Result (List Line) ℕ → Due
+due_by (Err number) = Refused 2 (bad_line number)
+due_by (Ok []) = Refused 3 bad_image
+due_by (Ok (lines.Format blocks ∷ more)) = Answered blocks more
+due_by (Ok (lines.Mount ∷ more)) = Refused 3 bad_image
+due_by (Ok (lines.Cut n how ∷ more)) = Refused 3 bad_image
+due_by (Ok (lines.Fail kind n ∷ more)) = Refused 3 bad_image
+due_by (Ok (lines.Call call ∷ more)) = Refused 3 bad_image
+
+-- the words come first, then the script's length, then its lines
+unfoldable pub due : List (List ℕ) → List ℕ → Due
+due words bytes =
+    if is_command words then (if nat_lt script_limit (length bytes) then Refused 8 too_long else due_by (script_of bytes))
+    else Refused 1 bad_words
+
+-- answers to the format of so many blocks and to the lines behind it: `ok`, and a life that begins
+-- with the tree of a root alone
+abbrev pub AreAnswers : ℕ → List Line → List Answer → Type 0
+AreAnswers blocks ls [] = ⊥
+AreAnswers blocks ls (first ∷ given) = (first ≡ answers.Reply replies.Done) × (end : State) × Life (limits_of blocks) newborn ls given end
+
+-- the status and the text that are due, and at status 0 the source was read to its end
+abbrev pub IsDue : Due → Option (List ℕ) → Option (List ℕ) → ℕ → List ℕ → Type 0
+IsDue (Refused due_status due_text) before now status text = (status ≡ due_status) × (text ≡ due_text)
+IsDue (Answered blocks ls) before now status text =
+    (status ≡ 0) × IsReadOut before now × ((given : List Answer) × AreAnswers blocks ls given × (text ≡ texts_of given))
+
+-- the source failed, and so the script of a command was not read
+abbrev pub FailsToRead : List (List ℕ) → Side → Side → ℕ → Type 0
+FailsToRead words old new status = (status ≡ 4) × (is_command words ≡ true) × HasRisen old.faults new.faults
+
+-- what a run comes to before its text is written: nothing to write where the source failed (4) or
+-- memory was wanting (7), else what is due for the words and the source's bytes
+abbrev pub ComesTo : List (List ℕ) → Side → Side → Ending → Type 0
+ComesTo words old new (Quiet status) = FailsToRead words old new status ⊎ (status ≡ 7)
+ComesTo words old new (Prints status text) =
+    (bytes : List ℕ) × IfSome old.bytes (λ all. bytes ≡ all) × IsDue (due words bytes) old.bytes new.bytes status text
+
+-- the text stands whole behind what the sink got before, or the sink failed (5) and got a first
+-- part of it
+abbrev pub IsWritten : Ending → Side → Side → ℕ → Type 0
+IsWritten (Quiet due_status) old new status = (status ≡ due_status) × (new ≡ old)
+IsWritten (Prints due_status text) old new status =
+    ((status ≡ due_status) × Takes old.bytes text new.bytes × (new.faults ≡ old.faults))
+    ⊎ ((status ≡ 5) × TakesSome old.bytes text new.bytes × HasRisen old.faults new.faults)
+
+-- the whole run: the words, the source and the sink before and after, and the status
+abbrev pub Ends : List (List ℕ) → Side → Side → Side → Side → ℕ → Type 0
+Ends words source source_new sink sink_new status =
+    (ending : Ending) × ComesTo words source source_new ending × IsWritten ending sink sink_new status
+
+-- what a script comes to once it is read
+abbrev pub IsScriptDue : Result (List Line) ℕ → Ending → Type 0
+IsScriptDue script (Quiet status) = status ≡ 7
+IsScriptDue script (Prints status text) = IsDue (due_by script) None None status text

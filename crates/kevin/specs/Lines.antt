@@ -1,0 +1,25 @@
+-- What doing lines gives.
+use Rattle.std.specs.Prelude.{ℕ, ◌≡◌, ◌++◌, List, true}
+use Rattle.kfs_posix.specs.Built.{is_built}
+use Rattle.kfs_model.specs.declared.Line.TheVariants as lines
+use Rattle.kfs_model.specs.declared.Line.{Line}
+use Rattle.kfs_model.specs.declared.Answer.{Answer}
+use Rattle.kfs_model.specs.Tree.{Limits}
+use Rattle.kfs_model.specs.Life.{State, Life, newborn}
+use Rattle.kfs_model.specs.AnswerText.{texts_of}
+
+-- the text of answers was added, one for each line, and lines and answers are a life from the tree
+-- of a root alone on
+pub record AnsweredFrom (limits : Limits) (ls : List Line) (old new : List ℕ) : Type 0 where
+  pub given : List Answer
+  pub end : State
+  pub life : Life limits newborn ls given end
+  pub text : new ≡ old ++ texts_of given
+
+-- the sessions do the call
+abbrev pub IsBuilt : Line → Type 0
+IsBuilt (lines.Call call) = is_built call ≡ true
+IsBuilt (lines.Format blocks) = Unit {0}
+IsBuilt lines.Mount = Unit {0}
+IsBuilt (lines.Cut n how) = Unit {0}
+IsBuilt (lines.Fail kind n) = Unit {0}

@@ -1,0 +1,67 @@
+// Scripts from their bytes to what they come to.
+ghost use Rattle.std.specs.Prelude.{◌≡◌, ◌≤◌, length, Ok, All};
+ghost use Rattle.kfs_model.specs.Script.{script_of, IsScript};
+ghost use Rattle.kevin.specs.Lines.{IsBuilt};
+ghost use Rattle.kevin.specs.Ending.{ComesTo, side, is_command, IsScriptDue};
+
+use crate::ending::{Ending, NO_MEMORY, line_refused, refused};
+use crate::lines::answer_lines;
+use crate::outside::Source;
+use crate::reading::{Unread, read_to_end};
+use kfs_script::{Line, ScriptFault, read_script};
+use kv_base::Text;
+use std::alloc::Global;
+
+// `run` and one word more.
+fn is_command(words: &Vec<Text>) -> bool
+    ensures { result ≡ is_command words.now.items }
+{
+    match words.as_slice() {
+        [word, _image] => word.bytes() == b"run".as_slice(),
+        _ => false,
+    }
+}
+
+/// What the words come to, and the script of a source where they ask for one.
+#[tactic(auto, unfolding(crate::specs::Ending::due))]
+pub fn run_words<S: Source>(alloc: Global, words: &Vec<Text>, script: &mut S) -> Ending
+    ensures { ComesTo words.now.items (side (S.left script.old) (S.faults script.old)) (side (S.left script.new) (S.faults script.new)) result }
+{
+    if !is_command(words) {
+        return refused(alloc, 1, b"bad words\n");
+    }
+    match read_to_end(alloc, script) {
+        Ok(text) => run_script(alloc, text.bytes()),
+        Err(Unread::Failed) => Ending::Quiet(4),
+        Err(Unread::TooLong) => refused(alloc, 8, b"script too long\n"),
+        Err(Unread::Memory) => Ending::Quiet(NO_MEMORY),
+    }
+}
+
+// What a script comes to.
+fn run_script(alloc: Global, bytes: &[u8]) -> Ending
+    requires { length bytes.now ≤ 16777216 }
+    ensures { IsScriptDue (script_of bytes.now) result }
+{
+    match read_script(alloc, bytes) {
+        Ok(script) => run_lines(alloc, script.lines()),
+        Err(ScriptFault::BadLine(number)) => line_refused(alloc, number),
+        Err(ScriptFault::Memory) => Ending::Quiet(NO_MEMORY),
+    }
+}
+
+// What the lines of a script come to.
+fn run_lines(alloc: Global, lines: &[Line]) -> Ending
+    requires lines { IsScript lines.now }
+    requires few { length lines.now ≤ 8388608 }
+    requires built { All IsBuilt lines.now }
+    ensures { IsScriptDue (Ok lines.now) result }
+{
+    match lines.split_first() {
+        Some((Line::Format(blocks), more)) => match answer_lines(alloc, *blocks, more) {
+            Ok(text) => Ending::Prints(0, text),
+            Err(_) => Ending::Quiet(NO_MEMORY),
+        },
+        _ => refused(alloc, 3, b"bad image\n"),
+    }
+}
