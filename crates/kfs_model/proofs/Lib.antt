@@ -1,4 +1,3 @@
 pub mod Renaming
 pub mod Written
 pub mod Fits
-pub mod SpellingLaws

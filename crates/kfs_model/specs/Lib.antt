@@ -4,8 +4,4 @@ pub mod Desk
 pub mod Step
 pub mod Change
 pub mod Life
-pub mod Script
-pub mod AnswerText
-pub mod ScriptRows
 pub mod Rows
-pub mod Spelled

@@ -3,9 +3,6 @@
 
 ghost use Rattle.std.specs.Prelude.{◌≡◌, ◌∷◌, []};
 
-mod command;
-
-pub use command::{BareCommand, Command, NumberCommand, PathCommand};
 use kfs_path::{Call, Reply};
 use kv_base::{Damage, Text};
 use std::alloc::AllocError;
@@ -72,19 +69,4 @@ ghost use Rattle.std.specs.FinMap.{find};
 /// What lay below the old place lies below the new one, under the same number.
 pub fn rename_moves()
     ensures { (old new tail : List (List ℕ)) (es : List (List (List ℕ) × ℕ)) → NoneBelow new es → find place_cmp (new ++ tail) (map (moved old new) es) ≡ find place_cmp (old ++ tail) es }
-{}
-
-ghost use Rattle.std.specs.Prelude.{Option, Some, true, ◌<◌, ◌^◌};
-ghost use Rattle.kfs_model.specs.declared.Line.{Line};
-ghost use Rattle.kfs_model.specs.Script.{IsLine, is_built, line_of, number_to};
-ghost use Rattle.kfs_model.specs.Spelled.{spelled, command_at, HasBytes};
-
-/// Each line of a command in the grammar is read from its spelling.
-pub fn spelled_lines_are_read()
-    ensures { (line : Line) → IsLine line → HasBytes line → is_built (command_at line) ≡ true → line_of (spelled line) ≡ Some line }
-{}
-
-/// A number of a line has one spelling.
-pub fn numbers_have_one_spelling()
-    ensures { (limit : ℕ) (v w : List ℕ) → limit < 2 ^ 64 → (n : ℕ) → number_to limit v ≡ Some n → number_to limit w ≡ Some n → v ≡ w }
 {}

@@ -5,7 +5,7 @@ use Rattle.std.proofs.lemmas.List.{take_rest}
 use Rattle.std.proofs.lemmas.List.Splits.{slice_split_first}
 use Rattle.std.proofs.lemmas.Option.{cond_some}
 use Rattle.std.proofs.lemmas.Bool.{ltb-true, ltb-false}
-use Rattle.kfs_model.specs.Script.{pieces_at, one}
+use Rattle.kfs_script.specs.Script.{pieces_at, one}
 
 pub cut_at : (mark : ℕ) (xs : List ℕ) (i : ℕ) → Some i ≡ position (λ b. eqb b mark) xs → pieces_at mark xs ≡ take i xs ∷ pieces_at mark (take (length xs - (i + 1)) (drop (i + 1) xs))
 cut_at mark xs i e =

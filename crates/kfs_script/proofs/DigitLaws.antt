@@ -2,7 +2,7 @@
 use Rattle.std.proofs.Common.{◌≡◌, ℕ, ◌+◌, ◌-◌, ◌*◌, ◌/◌, ◌≤◌, ◌<◌, List, [], ◌∷◌, length, drop, get_or, leb, cond, Some, None, ap, sym, ◌∙◌, arith, add-one}
 use Rattle.std.proofs.Math.Seq.{drop-cons, drop-length}
 use Rattle.std.proofs.lemmas.Bool.{lt-leb, cond-false}
-use Rattle.kfs_model.specs.Script.{number_on}
+use Rattle.kfs_script.specs.Script.{number_on}
 
 grows : (n : ℕ) (ds : List ℕ) → n ≤ number_on n ds
 grows n [] = omega arith

@@ -1,6 +1,6 @@
 -- The loop that reads the bytes of a word.
 use Rattle.std.proofs.Common.{◌≡◌, ℕ, List, [], length, ◌∷◌, ◌++◌, true, false, cond, eqb, Some, None, Option, refl, ap, sym, ◌∙◌, append_assoc}
-use Rattle.kfs_model.specs.Script.{◌>>=◌, onto, plain, byte_of, esc_of}
+use Rattle.kfs_script.specs.Script.{◌>>=◌, onto, plain, byte_of, esc_of}
 use Rattle.kfs_script.specs.Reading.{next_of}
 
 -- the bytes that were read, and those that are left

@@ -2,8 +2,8 @@
 use Rattle.std.proofs.Common.{◌≡◌, ℕ, ◌+◌, List, [], ◌∷◌, ◌++◌, true, false, ◌&&◌, Result, Ok, Err, Some, None, refl, ap, sym, ◌∙◌, append_assoc, append-nil}
 use Rattle.kfs_model.specs.declared.Line.{Line}
 use Rattle.std.proofs.lemmas.List.Elements.{All-nil, All-push}
-use Rattle.kfs_model.specs.declared.command.Command.{Command}
-use Rattle.kfs_model.specs.Script.{◌>>=◌, added, with_front, followed, has_none, lines_from, lines_of, script_of, IsLine, IsScript, is_format, pieces_at, command_of, built_form, line_of_words, line_of}
+use Rattle.kfs_script.specs.declared.command.Command.{Command}
+use Rattle.kfs_script.specs.Script.{◌>>=◌, added, with_front, followed, has_none, lines_from, lines_of, script_of, IsLine, IsScript, is_format, pieces_at, command_of, built_form, line_of_words, line_of}
 
 front_none : (r : Result (List Line) ℕ) → with_front [] r ≡ r
 front_none (Ok ls) = refl

@@ -1,1 +1,5 @@
+pub mod Script
+pub mod ScriptRows
+pub mod AnswerText
+pub mod Spelled
 pub mod Reading

@@ -5,7 +5,7 @@ use Rattle.kfs_script.specs.declared.fault.LineFault.{LineFault}
 use Rattle.kfs_script.specs.declared.fault.LineFault.TheVariants.{Outside, Memory}
 use Rattle.kfs_script.specs.declared.fault.ScriptFault.{ScriptFault}
 use Rattle.kfs_script.specs.declared.fault.ScriptFault.TheVariants as faults
-use Rattle.kfs_model.specs.Script.{pieces_at, ◌>>=◌, plain, byte_of}
+use Rattle.kfs_script.specs.Script.{pieces_at, ◌>>=◌, plain, byte_of}
 
 -- what was read is what the definition gives; outside the grammar it gives nothing
 abbrev pub Gives : {X : Type 0} → Result X LineFault → Option X → Type 0

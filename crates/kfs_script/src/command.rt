@@ -1,13 +1,62 @@
 //! The commands of a script.
 
 ghost use Rattle.std.specs.Prelude.{◌≡◌};
-ghost use Rattle.kfs_model.specs.Script.{path_command, number_command, bare_command, other_command, command_of, is_built, path_call, number_call, bare_line};
+ghost use Rattle.kfs_script.specs.Script.{path_command, number_command, bare_command, other_command, command_of, is_built, path_call, number_call, bare_line};
 
 use crate::cutting::spells;
-use kfs_model::{BareCommand, Command, Line, NumberCommand, PathCommand};
+use kfs_model::Line;
 use kfs_path::{Call, Text};
 
-#[tactic(auto, unfolding(kfs_model::specs::Script::path_command))]
+/// A command with one path: `mkdir`, `rmdir`, `unlink`, `stat`, `list`.
+#[derive(Clone, Copy, Debug, PartialEq, Eq)]
+pub enum PathCommand {
+    Mkdir,
+    Rmdir,
+    Unlink,
+    Stat,
+    List,
+}
+
+/// A command with one number: `close`, `dup`, `fstat`, `fsync`, `@work`.
+#[derive(Clone, Copy, Debug, PartialEq, Eq)]
+pub enum NumberCommand {
+    Close,
+    Dup,
+    Fstat,
+    Fsync,
+    Work,
+}
+
+/// A command alone: `sync`, `@mount`, `@tree`, `@room`.
+#[derive(Clone, Copy, Debug, PartialEq, Eq)]
+pub enum BareCommand {
+    Sync,
+    Mount,
+    Tree,
+    Room,
+}
+
+/// A command of a script; those that are named here take words of several kinds.
+#[derive(Clone, Copy, Debug, PartialEq, Eq)]
+pub enum Command {
+    Path(PathCommand),
+    Number(NumberCommand),
+    Bare(BareCommand),
+    Open,
+    Read,
+    Write,
+    Pread,
+    Pwrite,
+    Lseek,
+    Truncate,
+    Ftruncate,
+    Rename,
+    Format,
+    Cut,
+    Fail,
+}
+
+#[tactic(auto, unfolding(crate::specs::Script::path_command))]
 fn path_command(word: &[u8]) -> Option<PathCommand>
     ensures { result ≡ path_command word.now }
 {
@@ -29,7 +78,7 @@ fn path_command(word: &[u8]) -> Option<PathCommand>
     None
 }
 
-#[tactic(auto, unfolding(kfs_model::specs::Script::number_command))]
+#[tactic(auto, unfolding(crate::specs::Script::number_command))]
 fn number_command(word: &[u8]) -> Option<NumberCommand>
     ensures { result ≡ number_command word.now }
 {
@@ -51,7 +100,7 @@ fn number_command(word: &[u8]) -> Option<NumberCommand>
     None
 }
 
-#[tactic(auto, unfolding(kfs_model::specs::Script::bare_command))]
+#[tactic(auto, unfolding(crate::specs::Script::bare_command))]
 fn bare_command(word: &[u8]) -> Option<BareCommand>
     ensures { result ≡ bare_command word.now }
 {
@@ -70,7 +119,7 @@ fn bare_command(word: &[u8]) -> Option<BareCommand>
     None
 }
 
-#[tactic(auto, unfolding(kfs_model::specs::Script::other_command))]
+#[tactic(auto, unfolding(crate::specs::Script::other_command))]
 fn other_command(word: &[u8]) -> Option<Command>
     ensures { result ≡ other_command word.now }
 {
@@ -114,7 +163,7 @@ fn other_command(word: &[u8]) -> Option<Command>
 }
 
 /// The command that a word names.
-#[tactic(auto, unfolding(kfs_model::specs::Script::command_of))]
+#[tactic(auto, unfolding(crate::specs::Script::command_of))]
 pub(crate) fn command_of(word: &[u8]) -> Option<Command>
     ensures { result ≡ command_of word.now }
 {
@@ -131,16 +180,17 @@ pub(crate) fn command_of(word: &[u8]) -> Option<Command>
 }
 
 /// Whether a command is in the grammar yet.
-#[tactic(auto, unfolding(kfs_model::specs::Script::is_built))]
+#[tactic(auto, unfolding(crate::specs::Script::is_built))]
 pub(crate) fn is_built(command: Command) -> bool
     ensures { result ≡ is_built command }
 {
-    match command {
-        Command::Path(PathCommand::Mkdir | PathCommand::Stat | PathCommand::List) => true,
-        Command::Bare(BareCommand::Sync | BareCommand::Mount) => true,
-        Command::Format | Command::Cut | Command::Fail => true,
-        _ => false,
-    }
+    !matches!(
+        command,
+        Command::Number(NumberCommand::Work)
+            | Command::Bare(BareCommand::Tree)
+            | Command::Truncate
+            | Command::Ftruncate
+    )
 }
 
 pub(crate) fn path_call(command: PathCommand, path: Text) -> Call

@@ -3,7 +3,7 @@
 ghost use Rattle.std.specs.Prelude.{◌≡◌, ◌≤◌, ◌∷◌, ◌==◌, length};
 ghost use Rattle.std.specs.List.{position};
 ghost use Rattle.std.specs.Option.{option_copied, option_map};
-ghost use Rattle.kfs_model.specs.Script.{pieces_at, one, two, three, behind};
+ghost use Rattle.kfs_script.specs.Script.{pieces_at, one, two, three, behind};
 ghost use Rattle.std.specs.Str.{bytes_eq};
 ghost use Rattle.kfs_script.specs.Reading.{pieces_left, room_left};
 

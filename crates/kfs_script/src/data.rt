@@ -2,7 +2,7 @@
 
 ghost use Rattle.std.specs.Prelude.{◌≡◌};
 ghost use Rattle.std.specs.Option.{option_copied, option_map};
-ghost use Rattle.kfs_model.specs.Script.{behind, pieces_at, two, plain_data, byte_at, fill_data, data_of};
+ghost use Rattle.kfs_script.specs.Script.{behind, pieces_at, two, plain_data, byte_at, fill_data, data_of};
 ghost use Rattle.kfs_script.specs.Reading.{Gives};
 
 use crate::cutting::{behind, two_at};
@@ -12,7 +12,7 @@ use crate::number::count_of;
 use kfs_path::Data;
 use std::alloc::Global;
 
-#[tactic(auto, unfolding(kfs_model::specs::Script::plain_data))]
+#[tactic(auto, unfolding(crate::specs::Script::plain_data))]
 fn plain_data(alloc: Global, word: &[u8]) -> Result<Data, LineFault>
     ensures { Gives result (plain_data word.now) }
 {
@@ -32,7 +32,7 @@ fn byte_at(word: &[u8]) -> Option<u8>
     }
 }
 
-#[tactic(auto, unfolding(kfs_model::specs::Script::fill_data))]
+#[tactic(auto, unfolding(crate::specs::Script::fill_data))]
 fn fill_data(word: &[u8]) -> Option<Data>
     ensures { result ≡ fill_data word.now }
 {
@@ -43,7 +43,7 @@ fn fill_data(word: &[u8]) -> Option<Data>
 }
 
 /// The bytes that a word stands for: those behind `t:`, or those that `f:` counts.
-#[tactic(auto, unfolding(kfs_model::specs::Script::data_of))]
+#[tactic(auto, unfolding(crate::specs::Script::data_of))]
 pub(crate) fn data_of(alloc: Global, word: &[u8]) -> Result<Data, LineFault>
     ensures { Gives result (data_of word.now) }
 {

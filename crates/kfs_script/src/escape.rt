@@ -2,7 +2,7 @@
 
 ghost use Rattle.std.specs.Prelude.{◌≡◌, ◌<◌, ◌^◌, length, IfSome};
 ghost use Rattle.std.specs.Option.{option_map};
-ghost use Rattle.kfs_model.specs.Script.{hex_of, byte_of, is_plain, plain, esc_of};
+ghost use Rattle.kfs_script.specs.Script.{hex_of, byte_of, is_plain, plain, esc_of};
 ghost use Rattle.kfs_script.specs.Reading.{Gives, next_of};
 
 use crate::fault::LineFault;
@@ -10,7 +10,7 @@ use crate::number::is_digit;
 use kv_base::Text;
 use std::alloc::Global;
 
-#[tactic(auto, unfolding(kfs_model::specs::Script::hex_of))]
+#[tactic(auto, unfolding(crate::specs::Script::hex_of))]
 fn hex_of(digit: u8) -> Option<u8>
     ensures value { result ≡ hex_of digit }
     ensures small { IfSome result (λ n. n < 16) }
@@ -23,7 +23,7 @@ fn hex_of(digit: u8) -> Option<u8>
 }
 
 /// The byte of two digits.
-#[tactic(auto, unfolding(kfs_model::specs::Script::byte_of))]
+#[tactic(auto, unfolding(crate::specs::Script::byte_of))]
 pub(crate) fn byte_of(high: u8, low: u8) -> Option<u8>
     ensures { result ≡ byte_of high low }
 {

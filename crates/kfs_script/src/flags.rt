@@ -1,7 +1,7 @@
 //! The words of a line that name one of a few things.
 
 ghost use Rattle.std.specs.Prelude.{◌≡◌, ◌≤◌, IfSome};
-ghost use Rattle.kfs_model.specs.Script.{part, flags_of, whence_of, outcome_of, kind_of};
+ghost use Rattle.kfs_script.specs.Script.{part, flags_of, whence_of, outcome_of, kind_of};
 
 use crate::cutting::{behind, spells};
 use kfs_path::{Flags, Whence};
@@ -10,7 +10,7 @@ use kfs_path::{Flags, Whence};
 const IS_TRUNC_BUILT: bool = false;
 
 /// Whether a word begins with a part that may be missing, and what follows.
-#[tactic(auto, unfolding(kfs_model::specs::Script::part))]
+#[tactic(auto, unfolding(crate::specs::Script::part))]
 fn part<'a>(text: &[u8], word: &'a [u8]) -> (bool, &'a [u8])
     ensures { (result.0, result.1.now) ≡ part text.now word.now }
 {
@@ -21,7 +21,7 @@ fn part<'a>(text: &[u8], word: &'a [u8]) -> (bool, &'a [u8])
 }
 
 /// How a file is opened.
-#[tactic(auto, unfolding(kfs_model::specs::Script::flags_of))]
+#[tactic(auto, unfolding(crate::specs::Script::flags_of))]
 pub(crate) fn flags_of(word: &[u8]) -> Option<Flags>
     ensures { result ≡ flags_of word.now }
 {
@@ -46,7 +46,7 @@ pub(crate) fn flags_of(word: &[u8]) -> Option<Flags>
 }
 
 /// From where an offset counts.
-#[tactic(auto, unfolding(kfs_model::specs::Script::whence_of))]
+#[tactic(auto, unfolding(crate::specs::Script::whence_of))]
 pub(crate) fn whence_of(word: &[u8]) -> Option<Whence>
     ensures { result ≡ whence_of word.now }
 {
@@ -63,7 +63,7 @@ pub(crate) fn whence_of(word: &[u8]) -> Option<Whence>
 }
 
 /// What a cut leaves of the operation: nothing (0), a part (1), a mix (2), all (3).
-#[tactic(auto, unfolding(kfs_model::specs::Script::outcome_of))]
+#[tactic(auto, unfolding(crate::specs::Script::outcome_of))]
 pub(crate) fn outcome_of(word: &[u8]) -> Option<u8>
     ensures value { result ≡ outcome_of word.now }
     ensures within { IfSome result (λ how. how ≤ 3) }
@@ -84,7 +84,7 @@ pub(crate) fn outcome_of(word: &[u8]) -> Option<u8>
 }
 
 /// Which operation fails: a read (0), a program (1), an erase (2).
-#[tactic(auto, unfolding(kfs_model::specs::Script::kind_of))]
+#[tactic(auto, unfolding(crate::specs::Script::kind_of))]
 pub(crate) fn kind_of(word: &[u8]) -> Option<u8>
     ensures value { result ≡ kind_of word.now }
     ensures within { IfSome result (λ kind. kind ≤ 2) }

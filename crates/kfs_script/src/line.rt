@@ -2,21 +2,24 @@
 
 ghost use Rattle.std.specs.Prelude.{◌≡◌, false, IfOk, IfSome};
 ghost use Rattle.std.specs.Option.{option_copied};
-ghost use Rattle.kfs_model.specs.Script.{path_form, number_form, bare_form, open_form, read_form, write_form, pread_form, pwrite_form, lseek_form, truncate_form, ftruncate_form, rename_form, format_form, cut_form, fail_form, form_of, built_form, line_of, line_at, is_skipped, is_format, IsLine};
+ghost use Rattle.kfs_script.specs.Script.{path_form, number_form, bare_form, open_form, read_form, write_form, pread_form, pwrite_form, lseek_form, truncate_form, ftruncate_form, rename_form, format_form, cut_form, fail_form, form_of, built_form, line_of, line_at, is_skipped, is_format, IsLine};
 ghost use Rattle.kfs_script.specs.Reading.{Gives, pieces_left};
 
-use crate::command::{bare_line, command_of, is_built, number_call, path_call};
+use crate::command::{
+    BareCommand, Command, NumberCommand, PathCommand, bare_line, command_of, is_built, number_call,
+    path_call,
+};
 use crate::cutting::{cut, one, three, two};
 use crate::data::data_of;
 use crate::escape::esc_of;
 use crate::fault::LineFault;
 use crate::flags::{flags_of, kind_of, outcome_of, whence_of};
 use crate::number::{blocks_of, count_of, int_of, number_of, times_of};
-use kfs_model::{BareCommand, Command, Line, NumberCommand, PathCommand};
+use kfs_model::Line;
 use kfs_path::Call;
 use std::alloc::Global;
 
-#[tactic(auto, unfolding(kfs_model::specs::Script::path_form))]
+#[tactic(auto, unfolding(crate::specs::Script::path_form))]
 fn path_form(alloc: Global, command: PathCommand, words: Option<&[u8]>) -> Result<Line, LineFault>
     ensures read { Gives result (path_form command (pieces_left 32 (option_copied words.entry))) }
     ensures within { IfOk result IsLine }
@@ -28,7 +31,7 @@ fn path_form(alloc: Global, command: PathCommand, words: Option<&[u8]>) -> Resul
     Ok(Line::Call(path_call(command, path)))
 }
 
-#[tactic(auto, unfolding(kfs_model::specs::Script::number_form))]
+#[tactic(auto, unfolding(crate::specs::Script::number_form))]
 fn number_form(command: NumberCommand, words: Option<&[u8]>) -> Option<Line>
     ensures read { result ≡ number_form command (pieces_left 32 (option_copied words.entry)) }
     ensures within { IfSome result IsLine }
@@ -37,7 +40,7 @@ fn number_form(command: NumberCommand, words: Option<&[u8]>) -> Option<Line>
     Some(Line::Call(number_call(command, number)))
 }
 
-#[tactic(auto, unfolding(kfs_model::specs::Script::bare_form))]
+#[tactic(auto, unfolding(crate::specs::Script::bare_form))]
 fn bare_form(command: BareCommand, words: Option<&[u8]>) -> Option<Line>
     ensures read { result ≡ bare_form command (pieces_left 32 (option_copied words.entry)) }
     ensures within { IfSome result IsLine }
@@ -48,7 +51,7 @@ fn bare_form(command: BareCommand, words: Option<&[u8]>) -> Option<Line>
     }
 }
 
-#[tactic(auto, unfolding(kfs_model::specs::Script::open_form))]
+#[tactic(auto, unfolding(crate::specs::Script::open_form))]
 fn open_form(alloc: Global, words: Option<&[u8]>) -> Result<Line, LineFault>
     ensures read { Gives result (open_form (pieces_left 32 (option_copied words.entry))) }
     ensures within { IfOk result IsLine }
@@ -63,7 +66,7 @@ fn open_form(alloc: Global, words: Option<&[u8]>) -> Result<Line, LineFault>
     Ok(Line::Call(Call::Open { path, flags }))
 }
 
-#[tactic(auto, unfolding(kfs_model::specs::Script::read_form))]
+#[tactic(auto, unfolding(crate::specs::Script::read_form))]
 fn read_form(words: Option<&[u8]>) -> Option<Line>
     ensures read { result ≡ read_form (pieces_left 32 (option_copied words.entry)) }
     ensures within { IfSome result IsLine }
@@ -74,7 +77,7 @@ fn read_form(words: Option<&[u8]>) -> Option<Line>
     Some(Line::Call(Call::Read { fd, count }))
 }
 
-#[tactic(auto, unfolding(kfs_model::specs::Script::write_form))]
+#[tactic(auto, unfolding(crate::specs::Script::write_form))]
 fn write_form(alloc: Global, words: Option<&[u8]>) -> Result<Line, LineFault>
     ensures read { Gives result (write_form (pieces_left 32 (option_copied words.entry))) }
     ensures within { IfOk result IsLine }
@@ -89,7 +92,7 @@ fn write_form(alloc: Global, words: Option<&[u8]>) -> Result<Line, LineFault>
     Ok(Line::Call(Call::Write { fd, bytes }))
 }
 
-#[tactic(auto, unfolding(kfs_model::specs::Script::pread_form))]
+#[tactic(auto, unfolding(crate::specs::Script::pread_form))]
 fn pread_form(words: Option<&[u8]>) -> Option<Line>
     ensures read { result ≡ pread_form (pieces_left 32 (option_copied words.entry)) }
     ensures within { IfSome result IsLine }
@@ -101,7 +104,7 @@ fn pread_form(words: Option<&[u8]>) -> Option<Line>
     Some(Line::Call(Call::Pread { fd, count, offset }))
 }
 
-#[tactic(auto, unfolding(kfs_model::specs::Script::pwrite_form))]
+#[tactic(auto, unfolding(crate::specs::Script::pwrite_form))]
 fn pwrite_form(alloc: Global, words: Option<&[u8]>) -> Result<Line, LineFault>
     ensures read { Gives result (pwrite_form (pieces_left 32 (option_copied words.entry))) }
     ensures within { IfOk result IsLine }
@@ -119,7 +122,7 @@ fn pwrite_form(alloc: Global, words: Option<&[u8]>) -> Result<Line, LineFault>
     Ok(Line::Call(Call::Pwrite { fd, bytes, offset }))
 }
 
-#[tactic(auto, unfolding(kfs_model::specs::Script::lseek_form))]
+#[tactic(auto, unfolding(crate::specs::Script::lseek_form))]
 fn lseek_form(words: Option<&[u8]>) -> Option<Line>
     ensures read { result ≡ lseek_form (pieces_left 32 (option_copied words.entry)) }
     ensures within { IfSome result IsLine }
@@ -131,7 +134,7 @@ fn lseek_form(words: Option<&[u8]>) -> Option<Line>
     Some(Line::Call(Call::Lseek { fd, whence, offset }))
 }
 
-#[tactic(auto, unfolding(kfs_model::specs::Script::truncate_form))]
+#[tactic(auto, unfolding(crate::specs::Script::truncate_form))]
 fn truncate_form(alloc: Global, words: Option<&[u8]>) -> Result<Line, LineFault>
     ensures read { Gives result (truncate_form (pieces_left 32 (option_copied words.entry))) }
     ensures within { IfOk result IsLine }
@@ -146,7 +149,7 @@ fn truncate_form(alloc: Global, words: Option<&[u8]>) -> Result<Line, LineFault>
     Ok(Line::Call(Call::Truncate { path, length }))
 }
 
-#[tactic(auto, unfolding(kfs_model::specs::Script::ftruncate_form))]
+#[tactic(auto, unfolding(crate::specs::Script::ftruncate_form))]
 fn ftruncate_form(words: Option<&[u8]>) -> Option<Line>
     ensures read { result ≡ ftruncate_form (pieces_left 32 (option_copied words.entry)) }
     ensures within { IfSome result IsLine }
@@ -157,7 +160,7 @@ fn ftruncate_form(words: Option<&[u8]>) -> Option<Line>
     Some(Line::Call(Call::Ftruncate { fd, length }))
 }
 
-#[tactic(auto, unfolding(kfs_model::specs::Script::rename_form))]
+#[tactic(auto, unfolding(crate::specs::Script::rename_form))]
 fn rename_form(alloc: Global, words: Option<&[u8]>) -> Result<Line, LineFault>
     ensures read { Gives result (rename_form (pieces_left 32 (option_copied words.entry))) }
     ensures within { IfOk result IsLine }
@@ -170,7 +173,7 @@ fn rename_form(alloc: Global, words: Option<&[u8]>) -> Result<Line, LineFault>
     Ok(Line::Call(Call::Rename { old, new }))
 }
 
-#[tactic(auto, unfolding(kfs_model::specs::Script::format_form))]
+#[tactic(auto, unfolding(crate::specs::Script::format_form))]
 fn format_form(words: Option<&[u8]>) -> Option<Line>
     ensures read { result ≡ format_form (pieces_left 32 (option_copied words.entry)) }
     ensures within { IfSome result IsLine }
@@ -179,7 +182,7 @@ fn format_form(words: Option<&[u8]>) -> Option<Line>
     Some(Line::Format(blocks))
 }
 
-#[tactic(auto, unfolding(kfs_model::specs::Script::cut_form))]
+#[tactic(auto, unfolding(crate::specs::Script::cut_form))]
 fn cut_form(words: Option<&[u8]>) -> Option<Line>
     ensures read { result ≡ cut_form (pieces_left 32 (option_copied words.entry)) }
     ensures within { IfSome result IsLine }
@@ -190,7 +193,7 @@ fn cut_form(words: Option<&[u8]>) -> Option<Line>
     Some(Line::Cut { n, how })
 }
 
-#[tactic(auto, unfolding(kfs_model::specs::Script::fail_form))]
+#[tactic(auto, unfolding(crate::specs::Script::fail_form))]
 fn fail_form(words: Option<&[u8]>) -> Option<Line>
     ensures read { result ≡ fail_form (pieces_left 32 (option_copied words.entry)) }
     ensures within { IfSome result IsLine }
@@ -279,7 +282,7 @@ pub(crate) fn is_format(line: &Line) -> bool
 }
 
 /// The line that the bytes spell, behind no line (`first`) or behind another.
-#[tactic(auto, unfolding(kfs_model::specs::Script::line_at))]
+#[tactic(auto, unfolding(crate::specs::Script::line_at))]
 pub(crate) fn line_at(alloc: Global, first: bool, text: &[u8]) -> Result<Line, LineFault>
     ensures read { Gives result (line_at first text.now) }
     ensures within { IfOk result IsLine }

@@ -1,7 +1,7 @@
 //! Numbers in decimal digits.
 
 ghost use Rattle.std.specs.Prelude.{◌≡◌, ◌<◌, ◌≤◌, ◌^◌, IfSome, nat_le, if◌then◌else◌, Some, None};
-ghost use Rattle.kfs_model.specs.Script.{is_digit, is_number, number_on, number_to, number_of, times_of, count_of, blocks_of, negative, int_of};
+ghost use Rattle.kfs_script.specs.Script.{is_digit, is_number, number_on, number_to, number_of, times_of, count_of, blocks_of, negative, int_of};
 
 use crate::cutting::behind;
 
@@ -46,7 +46,7 @@ fn value_to(limit: u64, digits: &[u8]) -> Option<u64>
 }
 
 /// The number that a word spells, unless it is above the limit.
-#[tactic(auto, unfolding(kfs_model::specs::Script::number_to))]
+#[tactic(auto, unfolding(crate::specs::Script::number_to))]
 pub(crate) fn number_to(limit: u64, word: &[u8]) -> Option<u64>
     requires { limit < 2 ^ 63 }
     ensures value { result ≡ number_to limit word.now }
@@ -77,7 +77,7 @@ pub(crate) fn count_of(word: &[u8]) -> Option<u32>
 }
 
 /// A number of a line from 1 on.
-#[tactic(auto, unfolding(kfs_model::specs::Script::times_of))]
+#[tactic(auto, unfolding(crate::specs::Script::times_of))]
 pub(crate) fn times_of(word: &[u8]) -> Option<u32>
     ensures value { result ≡ times_of word.now }
     ensures within { IfSome result (λ n. (1 ≤ n) × (n ≤ 1000000000)) }
@@ -87,7 +87,7 @@ pub(crate) fn times_of(word: &[u8]) -> Option<u32>
 }
 
 /// How many blocks a device has.
-#[tactic(auto, unfolding(kfs_model::specs::Script::blocks_of))]
+#[tactic(auto, unfolding(crate::specs::Script::blocks_of))]
 pub(crate) fn blocks_of(word: &[u8]) -> Option<u16>
     ensures value { result ≡ blocks_of word.now }
     ensures within { IfSome result (λ n. (256 ≤ n) × (n ≤ 2048)) }
@@ -107,7 +107,7 @@ fn negative(n: u64) -> Option<i64>
 }
 
 /// A number below 2^63, with a minus before it where it is below 0.
-#[tactic(auto, unfolding(kfs_model::specs::Script::int_of))]
+#[tactic(auto, unfolding(crate::specs::Script::int_of))]
 pub(crate) fn int_of(word: &[u8]) -> Option<i64>
     ensures { result ≡ int_of word.now }
 {

@@ -2,7 +2,7 @@
 
 ghost use Rattle.std.specs.Prelude.{◌≡◌, ◌≤◌, ◌++◌, ◌∷◌, [], List, length, slice_get, false, OnOk};
 ghost use Rattle.std.specs.Option.{option_copied};
-ghost use Rattle.kfs_model.specs.Script.{IsLine, IsScript, is_format, has_none, added, script_of};
+ghost use Rattle.kfs_script.specs.Script.{IsLine, IsScript, is_format, has_none, added, script_of};
 ghost use Rattle.kfs_script.specs.Reading.{Reads, Adds};
 
 use crate::cutting::cut;
@@ -23,7 +23,7 @@ pub struct Script {
 impl Model for Script {
     ghost use Rattle.std.specs.Prelude.{List};
     ghost use Rattle.kfs_model.specs.declared.Line.{Line};
-    ghost use Rattle.kfs_model.specs.Script.{IsScript};
+    ghost use Rattle.kfs_script.specs.Script.{IsScript};
 
     ghost Value = { List Line };
 
@@ -74,7 +74,7 @@ impl Script {
 }
 
 /// Adds what the line with this number spells.
-#[tactic(auto, unfolding(kfs_model::specs::Script::added))]
+#[tactic(auto, unfolding(crate::specs::Script::added))]
 fn add(alloc: Global, script: &mut Script, number: u32, text: &[u8]) -> Result<(), ScriptFault>
     ensures { Adds result script.old script.new (added number (has_none script.old) text.now) }
 {

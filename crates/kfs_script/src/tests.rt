@@ -92,19 +92,60 @@ const SCRIPTS: [(&str, usize, u32); 84] = [
     ("@fail 1 erase", 0, 1),
 ];
 
+// The same of the calls of files.
+const CALLS: [(&str, usize, u32); 34] = [
+    ("open /f r\nopen /f w\nopen /f rw", 3, 0),
+    ("open /f rw+creat+excl+append", 1, 0),
+    ("open /f r+append\nopen /f w+trunc", 0, 2),
+    ("open /f wr", 0, 1),
+    ("open /f +creat", 0, 1),
+    ("open /f r+excl+creat", 0, 1),
+    ("open /f r+creat+creat", 0, 1),
+    ("open /f r+", 0, 1),
+    ("open /f", 0, 1),
+    ("close 0\ndup 63\nfstat 1000000000\nfsync 7", 4, 0),
+    ("close 00", 0, 1),
+    ("close -1", 0, 1),
+    ("close 1000000001", 0, 1),
+    ("read 0 0\nread 0 1048576", 2, 0),
+    ("read 0 1048577", 0, 1),
+    ("read 0", 0, 1),
+    ("write 0 t:\nwrite 0 t:a%20b\nwrite 0 f:1048576:FF", 3, 0),
+    ("write 0 f:1048577:FF", 0, 1),
+    ("write 0 f:1:F", 0, 1),
+    ("write 0 f:1:fF", 0, 1),
+    ("write 0 f:1:FF:", 0, 1),
+    ("write 0 a", 0, 1),
+    ("write 0 t:a b", 0, 1),
+    ("pread 0 5 -3\npwrite 0 t:a 9223372036854775807", 2, 0),
+    ("pread 0 5 9223372036854775808", 0, 1),
+    ("pread 0 5 -9223372036854775807", 1, 0),
+    ("pread 0 5 -9223372036854775808", 0, 1),
+    ("pread 0 5 -0", 0, 1),
+    ("lseek 0 set 0\nlseek 0 cur -1\nlseek 0 end 1", 3, 0),
+    ("lseek 0 begin 0", 0, 1),
+    ("rename /a /b\ntruncate /f 1", 0, 2),
+    ("rmdir /a\nunlink /f\n@room", 3, 0),
+    ("rename /a", 0, 1),
+    ("@tree\n@work 1", 0, 1),
+];
+
+// Whether a script has so many lines, or its first line outside the grammar has this number.
+fn is_read_so(alloc: Global, text: &str, lines: usize, bad: u32) -> Result<bool, Fail> {
+    if text.len() > 100 {
+        return Ok(false);
+    }
+    match read_script(alloc, text.as_bytes()) {
+        Ok(script) => Ok(bad == 0 && script.len() == lines),
+        Err(ScriptFault::BadLine(number)) => Ok(number == bad),
+        Err(ScriptFault::Memory) => Err(Fail::from(Memory)),
+    }
+}
+
 #[test]
 fn near_misses_of_the_grammar_are_refused_at_their_line(rt: HostRuntime) -> Result<(), Fail> {
-    let alloc = rt.alloc();
-    for (text, lines, bad) in SCRIPTS {
-        assert!(&rt; text.len() < 100);
-        match read_script(alloc, text.as_bytes()) {
-            Ok(script) => {
-                assert_eq!(&rt; bad, 0, "{text}");
-                assert_eq!(&rt; script.len(), lines, "{text}");
-            }
-            Err(ScriptFault::BadLine(number)) => assert_eq!(&rt; number, bad, "{text}"),
-            Err(ScriptFault::Memory) => panic!(&rt; "out of memory"),
-        }
+    for (text, lines, bad) in SCRIPTS.iter().chain(&CALLS) {
+        assert!(&rt; is_read_so(rt.alloc(), text, *lines, *bad)?, "{text}");
     }
     Ok(())
 }

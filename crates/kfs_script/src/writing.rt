@@ -2,7 +2,7 @@
 
 ghost use Rattle.std.specs.Prelude.{◌≡◌, ◌++◌, ◌∷◌, [], ◌<◌, length, codes, OnOk, OnErr};
 ghost use Rattle.std.specs.List.{flat_map};
-ghost use Rattle.kfs_model.specs.AnswerText.{newline, hex_digit, esc_byte, esc, and_number, and_name, below, path_text, item_text, errno_text, cause_text, reply_text, damaged, damage_text, text_of};
+ghost use Rattle.kfs_script.specs.AnswerText.{newline, hex_digit, esc_byte, esc, and_number, and_name, below, path_text, item_text, errno_text, cause_text, reply_text, damaged, damage_text, text_of};
 
 use crate::escape::is_plain;
 use kfs_model::Answer;
@@ -133,7 +133,7 @@ fn cause_text(cause: Cause) -> &'static [u8]
     }
 }
 
-#[tactic(auto, unfolding(kfs_model::specs::AnswerText::damaged))]
+#[tactic(auto, unfolding(crate::specs::AnswerText::damaged))]
 fn damage(alloc: Global, out: &mut Text, kind: &[u8], place: u64) -> Result<(), Memory>
     ensures { OnOk result (out.new ≡ out.old ++ damaged kind.now place) }
 {

@@ -1,6 +1,6 @@
 use Rattle.std.proofs.Common.{ap, sym, ◌∙◌, ◌∷◌}
 use Rattle.std.specs.Option.{option_copied}
-use Rattle.kfs_model.specs.Script.{one}
+use Rattle.kfs_script.specs.Script.{one}
 use Rattle.kfs_script.specs.Reading.{pieces_left}
 use Rattle.kfs_script.proofs.CutLaws.{one_more}
 use Rattle.kfs_script.proofs.cutting.one_at.Goals as goal

@@ -1,5 +1,5 @@
 use Rattle.std.proofs.Common.{◌≡◌, length}
-use Rattle.kfs_model.specs.Script.{esc_of}
+use Rattle.kfs_script.specs.Script.{esc_of}
 use Rattle.kfs_script.proofs.EscapeLaws.{with_front}
 use Rattle.kfs_script.proofs.escape.esc_of.Given as goal
 

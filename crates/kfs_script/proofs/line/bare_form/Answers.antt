@@ -1,7 +1,7 @@
 use Rattle.std.proofs.Common.{◌≡◌, None, ap, sym, ◌∙◌, refl, List, ℕ}
 use Rattle.std.specs.Option.{option_copied}
-use Rattle.kfs_model.specs.declared.command.BareCommand.{BareCommand}
-use Rattle.kfs_model.specs.Script.{pieces_at, bare_form}
+use Rattle.kfs_script.specs.declared.command.BareCommand.{BareCommand}
+use Rattle.kfs_script.specs.Script.{pieces_at, bare_form}
 use Rattle.kfs_script.specs.Reading.{pieces_left}
 use Rattle.kfs_script.proofs.CutLaws.{some_piece}
 use Rattle.kfs_script.proofs.line.bare_form.Goals as goal

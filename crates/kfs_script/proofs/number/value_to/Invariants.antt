@@ -1,5 +1,5 @@
 use Rattle.std.proofs.Common.{◌≡◌, ◌+◌, ◌<◌, drop}
-use Rattle.kfs_model.specs.Script.{number_on}
+use Rattle.kfs_script.specs.Script.{number_on}
 use Rattle.kfs_script.proofs.number.value_to.Given as goal
 
 -- the value so far, and what the digits that are left make of it

@@ -1,6 +1,6 @@
 use Rattle.std.proofs.Common.{◌≡◌, ◌≤◌, ◌+◌, length}
 use Rattle.std.specs.Option.{option_copied}
-use Rattle.kfs_model.specs.Script.{with_front, lines_from, has_none, script_of}
+use Rattle.kfs_script.specs.Script.{with_front, lines_from, has_none, script_of}
 use Rattle.kfs_script.specs.Reading.{pieces_left, room_left}
 use Rattle.kfs_script.proofs.script.read_script.Given as goal
 

@@ -1,6 +1,6 @@
 use Rattle.std.proofs.Common.{◌≡◌, ◌++◌, take}
 use Rattle.std.specs.List.{flat_map}
-use Rattle.kfs_model.specs.AnswerText.{and_name}
+use Rattle.kfs_script.specs.AnswerText.{and_name}
 use Rattle.kfs_script.proofs.writing.and_names.Given as goal
 
 abbrev pub invariant-loop-name : goal.invariant-loop-name

@@ -1,6 +1,6 @@
 use Rattle.std.proofs.Common.{◌≡◌, ◌++◌, take}
 use Rattle.std.specs.List.{flat_map}
-use Rattle.kfs_model.specs.AnswerText.{esc_byte}
+use Rattle.kfs_script.specs.AnswerText.{esc_byte}
 use Rattle.kfs_script.proofs.writing.escape.Given as goal
 
 abbrev pub invariant-loop-byte : goal.invariant-loop-byte

@@ -1,6 +1,6 @@
 use Rattle.std.proofs.Common.{◌≡◌, ◌++◌, take}
 use Rattle.std.specs.List.{flat_map}
-use Rattle.kfs_model.specs.AnswerText.{item_text}
+use Rattle.kfs_script.specs.AnswerText.{item_text}
 use Rattle.kfs_script.proofs.writing.items.Given as goal
 
 abbrev pub invariant-loop-next : goal.invariant-loop-next

@@ -1,6 +1,6 @@
 use Rattle.std.proofs.Common.{◌≡◌, ◌++◌, take}
 use Rattle.std.specs.List.{flat_map}
-use Rattle.kfs_model.specs.AnswerText.{below}
+use Rattle.kfs_script.specs.AnswerText.{below}
 use Rattle.kfs_script.proofs.writing.names_below.Given as goal
 
 abbrev pub invariant-loop-piece : goal.invariant-loop-piece

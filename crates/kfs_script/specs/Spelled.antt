@@ -1,7 +1,7 @@
 -- The spelling of a line: the one of its numbers, and of its bytes the one that answers use too.
-use Rattle.std.specs.Prelude.{ℕ, ◌<◌, Bool, true, false, List, [], ◌∷◌, ◌++◌, codes, ◌/◌, ◌%◌, if◌then◌else◌, ◌==◌}
+use Rattle.std.specs.Prelude.{ℕ, ◌≡◌, ◌<◌, ◌≤◌, ◌+◌, ◌-◌, ◌^◌, Bool, true, not, ◌||◌, List, [], ◌∷◌, ◌++◌, length, codes, ◌/◌, ◌%◌, if◌then◌else◌, ◌==◌, ℤ, pos, negsuc}
 use Rattle.std.specs.List.{AllByRecursion}
-use Rattle.std.specs.Fmt.{decimal, signed_decimal, digits}
+use Rattle.std.specs.Fmt.{decimal, signed_decimal}
 use Rattle.kfs_path.specs.declared.call.Call.{Call}
 use Rattle.kfs_path.specs.declared.call.Call.TheVariants as calls
 use Rattle.kfs_path.specs.declared.call.Data.{Data}
@@ -11,12 +11,13 @@ use Rattle.kfs_path.specs.declared.call.Whence.{Whence}
 use Rattle.kfs_path.specs.declared.call.Whence.TheVariants as whences
 use Rattle.kfs_model.specs.declared.Line.{Line}
 use Rattle.kfs_model.specs.declared.Line.TheVariants as lines
-use Rattle.kfs_model.specs.declared.command.Command.{Command}
-use Rattle.kfs_model.specs.declared.command.Command.TheVariants as commands
-use Rattle.kfs_model.specs.declared.command.PathCommand.TheVariants as paths
-use Rattle.kfs_model.specs.declared.command.NumberCommand.TheVariants as numbers
-use Rattle.kfs_model.specs.declared.command.BareCommand.TheVariants as bare
-use Rattle.kfs_model.specs.AnswerText.{esc, hex_digit, and_number}
+use Rattle.kfs_script.specs.declared.command.Command.{Command}
+use Rattle.kfs_script.specs.declared.command.Command.TheVariants as commands
+use Rattle.kfs_script.specs.declared.command.PathCommand.TheVariants as paths
+use Rattle.kfs_script.specs.declared.command.NumberCommand.TheVariants as numbers
+use Rattle.kfs_script.specs.declared.command.BareCommand.TheVariants as bare
+use Rattle.kfs_script.specs.Script.{is_trunc_built}
+use Rattle.kfs_script.specs.AnswerText.{esc, hex_digit, and_number}
 
 -- a space and a word
 abbrev pub and_word : List ℕ → List ℕ
@@ -114,15 +115,46 @@ command_at (lines.Call call) = command_for call
 abbrev pub AreBytes : List ℕ → Type 0
 AreBytes bytes = AllByRecursion (λ b. b < 256) bytes
 
-abbrev pub HasBytes : Line → Type 0
-HasBytes (lines.Call (calls.Mkdir path)) = AreBytes path
-HasBytes (lines.Call (calls.Rmdir path)) = AreBytes path
-HasBytes (lines.Call (calls.Unlink path)) = AreBytes path
-HasBytes (lines.Call (calls.Stat path)) = AreBytes path
-HasBytes (lines.Call (calls.List path)) = AreBytes path
-HasBytes (lines.Call (calls.Truncate path size)) = AreBytes path
-HasBytes (lines.Call (calls.Open path flags)) = AreBytes path
-HasBytes (lines.Call (calls.Rename old new)) = AreBytes old × AreBytes new
-HasBytes (lines.Call (calls.Write fd (Plain bytes))) = AreBytes bytes
-HasBytes (lines.Call (calls.Pwrite fd (Plain bytes) offset)) = AreBytes bytes
-HasBytes line = Unit {0}
+-- below 2^63 without its sign
+abbrev pub IsOffset : ℤ → Type 0
+IsOffset (pos n) = n ≤ 2 ^ 63 - 1
+IsOffset (negsuc n) = n + 1 ≤ 2 ^ 63 - 1
+
+-- at most 1,048,576 bytes
+abbrev pub FitsData : Data → Type 0
+FitsData (Plain bytes) = AreBytes bytes × (length bytes ≤ 1048576)
+FitsData (Fill count byte) = (count ≤ 1048576) × (byte < 256)
+
+-- reading or writing is among them
+abbrev pub FitsFlags : Flags → Type 0
+FitsFlags flags = ((flags.read || flags.write) ≡ true) × ((is_trunc_built || not flags.trunc) ≡ true)
+
+-- the numbers are at most 1,000,000,000, counts at most 1,048,576
+abbrev pub FitsCall : Call → Type 0
+FitsCall (calls.Open path flags) = AreBytes path × FitsFlags flags
+FitsCall (calls.Close fd) = fd ≤ 1000000000
+FitsCall (calls.Dup fd) = fd ≤ 1000000000
+FitsCall (calls.Read fd count) = (fd ≤ 1000000000) × (count ≤ 1048576)
+FitsCall (calls.Write fd bytes) = (fd ≤ 1000000000) × FitsData bytes
+FitsCall (calls.Pread fd count offset) = (fd ≤ 1000000000) × (count ≤ 1048576) × IsOffset offset
+FitsCall (calls.Pwrite fd bytes offset) = (fd ≤ 1000000000) × FitsData bytes × IsOffset offset
+FitsCall (calls.Lseek fd whence offset) = (fd ≤ 1000000000) × IsOffset offset
+FitsCall (calls.Truncate path size) = AreBytes path × IsOffset size
+FitsCall (calls.Ftruncate fd size) = (fd ≤ 1000000000) × IsOffset size
+FitsCall (calls.Mkdir path) = AreBytes path
+FitsCall (calls.Rmdir path) = AreBytes path
+FitsCall (calls.Unlink path) = AreBytes path
+FitsCall (calls.Rename old new) = AreBytes old × AreBytes new
+FitsCall (calls.Stat path) = AreBytes path
+FitsCall (calls.Fstat fd) = fd ≤ 1000000000
+FitsCall (calls.List path) = AreBytes path
+FitsCall (calls.Fsync fd) = fd ≤ 1000000000
+FitsCall calls.Sync = Unit {0}
+FitsCall calls.Room = Unit {0}
+FitsCall calls.Tree = Unit {0}
+FitsCall (calls.Work n) = n ≤ 1000000000
+
+-- what a line's call holds has a spelling
+abbrev pub Fits : Line → Type 0
+Fits (lines.Call call) = FitsCall call
+Fits line = Unit {0}

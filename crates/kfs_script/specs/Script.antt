@@ -11,14 +11,14 @@ use Rattle.kfs_path.specs.declared.call.Whence.{Whence}
 use Rattle.kfs_path.specs.declared.call.Whence.TheVariants as whences
 use Rattle.kfs_model.specs.declared.Line.{Line}
 use Rattle.kfs_model.specs.declared.Line.TheVariants as lines
-use Rattle.kfs_model.specs.declared.command.Command.{Command}
-use Rattle.kfs_model.specs.declared.command.Command.TheVariants as commands
-use Rattle.kfs_model.specs.declared.command.PathCommand.{PathCommand}
-use Rattle.kfs_model.specs.declared.command.PathCommand.TheVariants as paths
-use Rattle.kfs_model.specs.declared.command.NumberCommand.{NumberCommand}
-use Rattle.kfs_model.specs.declared.command.NumberCommand.TheVariants as numbers
-use Rattle.kfs_model.specs.declared.command.BareCommand.{BareCommand}
-use Rattle.kfs_model.specs.declared.command.BareCommand.TheVariants as bare
+use Rattle.kfs_script.specs.declared.command.Command.{Command}
+use Rattle.kfs_script.specs.declared.command.Command.TheVariants as commands
+use Rattle.kfs_script.specs.declared.command.PathCommand.{PathCommand}
+use Rattle.kfs_script.specs.declared.command.PathCommand.TheVariants as paths
+use Rattle.kfs_script.specs.declared.command.NumberCommand.{NumberCommand}
+use Rattle.kfs_script.specs.declared.command.NumberCommand.TheVariants as numbers
+use Rattle.kfs_script.specs.declared.command.BareCommand.{BareCommand}
+use Rattle.kfs_script.specs.declared.command.BareCommand.TheVariants as bare
 
 infixl 10 ◌>>=◌
 abbrev pub ◌>>=◌ : {A B : Type 0} → Option A → (A → Option B) → Option B
@@ -275,15 +275,11 @@ command_of word = command_by (path_command word) (number_command word) (bare_com
 
 -- the commands that are in the grammar yet
 unfoldable pub is_built : Command → Bool
-is_built (commands.Path paths.Mkdir) = true
-is_built (commands.Path paths.Stat) = true
-is_built (commands.Path paths.List) = true
-is_built (commands.Bare bare.Sync) = true
-is_built (commands.Bare bare.Mount) = true
-is_built commands.Format = true
-is_built commands.Cut = true
-is_built commands.Fail = true
-is_built command = false
+is_built (commands.Number numbers.Work) = false
+is_built (commands.Bare bare.Tree) = false
+is_built commands.Truncate = false
+is_built commands.Ftruncate = false
+is_built command = true
 
 abbrev pub path_call : PathCommand → List ℕ → Call
 path_call paths.Mkdir path = calls.Mkdir path

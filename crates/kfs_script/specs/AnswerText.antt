@@ -13,7 +13,7 @@ use Rattle.kv_base.specs.declared.damage.Damage.{Damage}
 use Rattle.kv_base.specs.declared.damage.Damage.TheVariants as damages
 use Rattle.kfs_model.specs.declared.Answer.{Answer}
 use Rattle.kfs_model.specs.declared.Answer.TheVariants as answers
-use Rattle.kfs_model.specs.Script.{is_plain}
+use Rattle.kfs_script.specs.Script.{is_plain}
 
 abbrev pub newline : List ℕ
 newline = 10 ∷ []

@@ -4,8 +4,8 @@ use Rattle.kfs_path.specs.declared.call.Call.TheVariants as calls
 use Rattle.kfs_path.specs.declared.call.Reply.TheVariants as replies
 use Rattle.kfs_model.specs.declared.Line.TheVariants as lines
 use Rattle.kfs_model.specs.declared.Answer.TheVariants as answers
-use Rattle.kfs_model.specs.Script.{script_of, added, line_at, line_of, command_of, path_command, number_command, bare_command, other_command, is_built, path_form, bare_form, format_form, cut_form, number_to, times_of, outcome_of, blocks_of, byte_of, hex_of}
-use Rattle.kfs_model.specs.AnswerText.{text_of}
+use Rattle.kfs_script.specs.Script.{script_of, added, line_at, line_of, command_of, path_command, number_command, bare_command, other_command, is_built, path_form, bare_form, format_form, cut_form, number_to, times_of, outcome_of, blocks_of, byte_of, hex_of}
+use Rattle.kfs_script.specs.AnswerText.{text_of}
 
 pub lines_row : script_of (codes "# a\n@format 256\n\nmkdir /a%2Fb\n@cut 3 mix\nsync")
     ≡ Ok (lines.Format 256 ∷ lines.Call (calls.Mkdir (codes "/a/b")) ∷ lines.Cut 3 2 ∷ lines.Call calls.Sync ∷ [])

@@ -1,5 +1,0 @@
-use Rattle.kfs_model.proofs.SpellingLaws.{one_spelling}
-use Rattle.kfs_model.proofs.numbers_have_one_spelling.Goals as goal
-
-pub returns : goal.returns
-returns c = one_spelling
