@@ -1,11 +1,12 @@
 -- The chunks of a file are deleted one by one.
-use Rattle.std.proofs.Common.{◌≡◌, ◌≢◌, ℕ, zero, suc, ◌<◌, ◌≤◌, ◌+◌, ◌-◌, ◌^◌, ◌⊎◌, inl, inr, true, false, cond, refl, sym, ◌∙◌, ap, subst, arith, List, Option, Some, None}
+use Rattle.std.proofs.Common.{◌≡◌, ◌≢◌, ℕ, zero, suc, ◌<◌, ◌≤◌, ◌+◌, ◌-◌, ◌^◌, ◌⊎◌, inl, inr, true, false, cond, refl, sym, ◌∙◌, ap, subst, arith, List, Option, Some, None, length, unwrap_or}
 use Rattle.std.specs.Ordering.{eq_by_cmp}
 use Rattle.std.specs.Cmp.Lexicographic.{nat_list_cmp_total}
 use Rattle.std.specs.FinMap as objects
+use Rattle.std.proofs.lemmas.List.{length-set}
 use Rattle.kv_device.specs.Bytes.{bytes_cmp}
 use Rattle.kv_device.specs.declared.fault.DeviceFault.{DeviceFault}
-use Rattle.kv_device.specs.Machine.{Machine}
+use Rattle.kv_device.specs.Machine.{Machine, changes_of}
 use Rattle.kv_device.specs.Objects.{Objects}
 use Rattle.kfs_objects.specs.Keys.{chunk_key}
 use Rattle.kfs_tx.specs.Run.{Run, IsReady, changed_keys, deleted_in, seen, Caused, Fallen}
@@ -22,7 +23,7 @@ removed_other : (m : Objects) (k q : List ℕ) → q ≢ k → objects.get (obje
 removed_other m k q d = objects.get-remove nat_list_cmp_total m k q ∙ ap (λ b. cond b None (objects.get m q)) (apart_test nat_list_cmp_total same_bytes q k d)
 
 pub removes_none : (r : Run) (node from : ℕ) → RemovesChunks r node from from r
-removes_none r node from = record { ready = λ h. h; gone = λ c ready le lt. absurd (omega arith); others = λ q ready d. refl; same = refl }
+removes_none r node from = record { ready = λ h. h; gone = λ c ready le lt. absurd (omega arith); others = λ q ready d. refl; same = refl; slots = refl }
 
 below : (c k : ℕ) → c < k + 1 → (c < k) ⊎ (c ≡ k)
 below c k lt = grind arith
@@ -41,6 +42,7 @@ removes_more old mid new node from k before least is =
       ];
       others = λ q ready d. ap (λ m. objects.get m q) (seen_deleted mid key (before.ready ready)) ∙ removed_other (seen mid) key q (d k least (omega arith)) ∙ before.others q ready (λ c le lt. d c le (omega arith));
       same = ap (λ (r : Run). record r { machine = record r.machine { pending = (deleted_in mid key).machine.pending } }) before.same;
+      slots = length-set mid.machine.pending mid.tx (Some (objects.insert (unwrap_or (changes_of mid.machine mid.tx) objects.empty) key None)) ∙ before.slots;
     })
 
 pub keys_more : (old mid new : Run) (node from k : ℕ) → RemovesChunks old node from k mid → from ≤ k → new ≡ deleted_in mid (chunk_key node k) → ChangesAtMost old (k - from) mid → ChangesAtMost old (k + 1 - from) new

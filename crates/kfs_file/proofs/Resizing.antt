@@ -15,7 +15,7 @@ use Rattle.kfs_file.specs.Contents.{HoldsFile, ResizesFile, CutsFile, RemovesChu
 use Rattle.kfs_file.proofs.Written.{nat_split, length_padded, padded_at}
 use Rattle.kfs_file.proofs.Pieces.{short_piece, within_longer}
 
-length_resized : (b : List ℕ) (n : ℕ) → length (resized b n) ≡ n
+pub length_resized : (b : List ℕ) (n : ℕ) → length (resized b n) ≡ n
 length_resized b n = length-take-le n (padded b n) (let h = length_padded b n in omega arith)
 
 resized_before : (b : List ℕ) (n j : ℕ) → j < n → get_or (resized b n) j 0 ≡ get_or b j 0

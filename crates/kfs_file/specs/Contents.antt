@@ -65,6 +65,7 @@ pub record RemovesChunks (old : Run) (node from to : ℕ) (new : Run) : Type 0 w
   pub gone : (chunk : ℕ) → IsReady old → from ≤ chunk → chunk < to → objects.get (seen new) (chunk_key node chunk) ≡ None
   pub others : (q : List ℕ) → IsReady old → ((chunk : ℕ) → from ≤ chunk → chunk < to → q ≢ chunk_key node chunk) → objects.get (seen new) q ≡ objects.get (seen old) q
   pub same : new ≡ pending_of new old
+  pub slots : length new.machine.pending ≡ length old.machine.pending
 
 -- want of memory before the device was asked, or what the device answered; and its cause
 abbrev pub RemoveFault : Run → List ℕ → DeviceFault → Machine → Type 0

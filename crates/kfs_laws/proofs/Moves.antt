@@ -55,7 +55,7 @@ front_there t tree front (x ∷ rest) n e =
     (up.0, up.1)
 
 -- a place directly below is listed
-listed : (q r : Place) (x : Name) (n : ℕ) (es : List (Place × ℕ)) → child q r ≡ Some x → find place_cmp r es ≡ Some n → 0 < length (filter_map (λ e. child q e.0) es)
+pub listed : (q r : Place) (x : Name) (n : ℕ) (es : List (Place × ℕ)) → child q r ≡ Some x → find place_cmp r es ≡ Some n → 0 < length (filter_map (λ e. child q e.0) es)
 listed q r x n [] is e = absurd (cc)
 listed q r x n (e ∷ es) is f = elim (decide_place r e.0) [
   | inl same ↦ here (child q e.0) (filter_map (λ e. child q e.0) es) (ap (child q) (sym same) ∙ is)

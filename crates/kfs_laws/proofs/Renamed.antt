@@ -42,7 +42,7 @@ cut true o x e = (refl, e)
 cut false o x e = absurd (cc)
 
 -- a front of a place one longer is that place, or a front of the shorter one
-front_of_push : (front q : Place) (x : Name) (tail : Place) → below front (q ++ x ∷ []) ≡ Some tail → (q ++ x ∷ [] ≡ front) ⊎ ((rest : Place) × (below front q ≡ Some rest))
+pub front_of_push : (front q : Place) (x : Name) (tail : Place) → below front (q ++ x ∷ []) ≡ Some tail → (q ++ x ∷ [] ≡ front) ⊎ ((rest : Place) × (below front q ≡ Some rest))
 front_of_push [] q x tail e = inr (q, refl)
 front_of_push (a ∷ []) [] x tail e = let h = cut (bytes_eq a x) (Some []) tail e in let same : a ≡ x = (bytes_eq-Decides a x).0 h.0 in inl (λ i. sym same i ∷ [])
 front_of_push (a ∷ b ∷ front) [] x tail e = let h = cut (bytes_eq a x) None tail e in let bad = h.1 in absurd (cc)
@@ -54,7 +54,7 @@ front_of_push (a ∷ front) (b ∷ q) x tail e =
       | inr rest ↦ inr (rest.0, ap (λ t. cond t (below front q) None) h.0 ∙ rest.1)
     ]
 
-front_of_shorter : (front q : Place) (x : Name) → below front (q ++ x ∷ []) ≡ None → below front q ≡ None
+pub front_of_shorter : (front q : Place) (x : Name) → below front (q ++ x ∷ []) ≡ None → below front q ≡ None
 front_of_shorter front q x none = by (below front q) refl
   where
     by : (o : Option Place) → below front q ≡ o → o ≡ None
@@ -77,7 +77,7 @@ module _ (t : Tree) (tree : IsTree t) (old place : Place) (name : Name) (p : ℕ
   abbrev after : Tree
   after = renamed t old new
 
-  free_below : (q : Place) (n : ℕ) → number_at t q ≡ Some n → below new q ≡ None
+  pub free_below : (q : Place) (n : ℕ) → number_at t q ≡ Some n → below new q ≡ None
   free_below q n e = by (below new q) refl
     where
       by : (o : Option Place) → below new q ≡ o → o ≡ None
@@ -97,10 +97,10 @@ module _ (t : Tree) (tree : IsTree t) (old place : Place) (name : Name) (p : ℕ
   number_gone q tail a b = find-all_put q (map (moved old new) t.names) ∙ gone_below old new q tail t.names a b
 
   -- where a place's number comes from
-  abbrev Comes : Place → ℕ → Type 0
+  abbrev pub Comes : Place → ℕ → Type 0
   Comes q n = ((tail : Place) × (below new q ≡ Some tail) × (q ≡ new ++ tail) × (number_at t (old ++ tail) ≡ Some n)) ⊎ ((below old q ≡ None) × (below new q ≡ None) × (number_at t q ≡ Some n))
 
-  comes : (q : Place) (n : ℕ) → number_at after q ≡ Some n → Comes q n
+  pub comes : (q : Place) (n : ℕ) → number_at after q ≡ Some n → Comes q n
   comes q n e = by (below new q) (below old q) refl refl
     where
       by : (o b : Option Place) → below new q ≡ o → below old q ≡ b → Comes q n
@@ -108,7 +108,7 @@ module _ (t : Tree) (tree : IsTree t) (old place : Place) (name : Name) (p : ℕ
       by None None is was = inr (was, is, sym (number_other q was is) ∙ e)
       by None (Some tail) is was = absurd (none_some (number_at after q) n (number_gone q tail was is) e)
 
-  place_old : below old place ≡ None
+  pub place_old : below old place ≡ None
   place_old = front_of_shorter old place name goal.apart
 
   place_new : below new place ≡ None
@@ -143,7 +143,7 @@ module _ (t : Tree) (tree : IsTree t) (old place : Place) (name : Name) (p : ℕ
         ((m.0, number_other q (front_of_shorter old q x a) (front_of_shorter new q x b) ∙ m.1, m.2), tree.names q x n was)
   ]
 
-  source : (q : Place) (n : ℕ) → number_at after q ≡ Some n → (r : Place) × (number_at t r ≡ Some n)
+  pub source : (q : Place) (n : ℕ) → number_at after q ≡ Some n → (r : Place) × (number_at t r ≡ Some n)
   source q n e = elim (comes q n e) [
     | inl from ↦ (old ++ from.0, from.3)
     | inr (a, b, was) ↦ (q, was)

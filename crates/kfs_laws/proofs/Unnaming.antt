@@ -31,10 +31,10 @@ both_true false b e = absurd (cc)
 abbrev pub stays : Place → Place → Bool
 stays gone q = not (is_some (below gone q) && is_some (below q gone))
 
-stays_not : (gone : Place) → stays gone gone ≡ false
+pub stays_not : (gone : Place) → stays gone gone ≡ false
 stays_not gone = λ i. not (is_some (below_itself gone i) && is_some (below_itself gone i))
 
-stays_other : (gone q : Place) → q ≢ gone → stays gone q ≡ true
+pub stays_other : (gone q : Place) → q ≢ gone → stays gone q ≡ true
 stays_other gone q d = by (is_some (below gone q) && is_some (below q gone)) refl
   where
     by : (b : Bool) → (is_some (below gone q) && is_some (below q gone)) ≡ b → not b ≡ true

@@ -1,5 +1,5 @@
 -- A tree with no nameless node loses none.
-use Rattle.std.proofs.Common.{◌≡◌, ℕ, ◌==◌, ◌||◌, inl, inr, true, false, cond, Bool, refl, sym, ◌∙◌, ap, arith, List, [], ◌∷◌, filter, Some, None}
+use Rattle.std.proofs.Common.{◌≡◌, ℕ, ◌==◌, ◌||◌, inl, inr, true, false, cond, Bool, refl, ◌∙◌, ap, arith, List, [], ◌∷◌, filter, Some}
 use Rattle.std.specs.Ordering.{nat_cmp, eq_by_cmp}
 use Rattle.std.specs.Cmp.{nat_cmp_total}
 use Rattle.std.specs.List.{list_any}

@@ -25,13 +25,13 @@ module _ (t : Tree) (tree : IsTree t) (n : ℕ) (nameless : IsNameless t n) wher
   node_is : (k : ℕ) → node_of now k ≡ cond (not (k == n)) (node_of t k) None
   node_is k = find-where_key nat_cmp (λ j. not (j == n)) k (λ x e. ap (λ j. not (j == n)) (sym (nat_cmp-IsAntisymmetric k x e))) t.nodes
 
-  node_here : node_of now n ≡ None
+  pub node_here : node_of now n ≡ None
   node_here = node_is n ∙ ap (λ b. cond (not b) (node_of t n) None) (let s : (n == n) ≡ true = grind (arith, nat_tests) in s)
 
-  node_old : (k : ℕ) → k ≢ n → node_of now k ≡ node_of t k
+  pub node_old : (k : ℕ) → k ≢ n → node_of now k ≡ node_of t k
   node_old k d = node_is k ∙ ap (λ b. cond (not b) (node_of t k) None) (let s : (k == n) ≡ false = grind (arith, nat_tests) in s)
 
-  node_before : (k : ℕ) (x : Node) → node_of now k ≡ Some x → (k ≢ n) × (node_of t k ≡ Some x)
+  pub node_before : (k : ℕ) (x : Node) → node_of now k ≡ Some x → (k ≢ n) × (node_of t k ≡ Some x)
   node_before k x e = elim (decide_number k n) [
     | inl is ↦ let bad : Some x ≡ None = sym e ∙ ap (node_of now) is ∙ node_here in absurd (cc)
     | inr other ↦ (other, sym (node_old k other) ∙ e)

@@ -6,7 +6,13 @@ pub mod Counting
 pub mod Dropping
 pub mod Fresh
 pub mod KeysApart
+pub mod Leaving
 pub mod Lookups
 pub mod Making
 pub mod Once
+pub mod Renaming
+pub mod Replacing
+pub mod StillNamed
+pub mod Sweeping
 pub mod Unnaming
+pub mod UnnamingDrops

@@ -70,13 +70,13 @@ module _ (t : Tree) (tree : IsTree t) (place : Place) (name : Name) (p n : ℕ) 
   number_is : (q : Place) → number_at now q ≡ cond (stays gone q) (number_at t q) None
   number_is q = find-where_key place_cmp (stays gone) q (λ x e. ap (stays gone) (sym (same_places q x e))) t.names
 
-  number_gone : number_at now gone ≡ None
+  pub number_gone : number_at now gone ≡ None
   number_gone = number_is gone ∙ ap (λ b. cond b (number_at t gone) None) (stays_not gone)
 
-  number_old : (q : Place) → q ≢ gone → number_at now q ≡ number_at t q
+  pub number_old : (q : Place) → q ≢ gone → number_at now q ≡ number_at t q
   number_old q d = number_is q ∙ ap (λ b. cond b (number_at t q) None) (stays_other gone q d)
 
-  named_before : (q : Place) (k : ℕ) → number_at now q ≡ Some k → (q ≢ gone) × (number_at t q ≡ Some k)
+  pub named_before : (q : Place) (k : ℕ) → number_at now q ≡ Some k → (q ≢ gone) × (number_at t q ≡ Some k)
   named_before q k e = elim (decide_place q gone) [
     | inl is ↦ absurd (none_some _ k (ap (number_at now) is ∙ number_gone) e)
     | inr other ↦ (other, sym (number_old q other) ∙ e)
@@ -85,7 +85,7 @@ module _ (t : Tree) (tree : IsTree t) (place : Place) (name : Name) (p n : ℕ) 
   pub nameless : IsNameless now n
   nameless q e = let h = named_before q n e in h.0 (tree.apart q gone n h.1 at)
 
-  nameless_before : (k : ℕ) → k ≢ n → IsNameless now k → IsNameless t k
+  pub nameless_before : (k : ℕ) → k ≢ n → IsNameless now k → IsNameless t k
   nameless_before k other none q e = none q (number_old q (λ is. other (same_Some k n (sym e ∙ ap (number_at t) is ∙ at))) ∙ e)
 
   place_kept : place ≢ gone

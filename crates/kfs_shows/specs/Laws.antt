@@ -5,7 +5,7 @@ use Rattle.kv_device.specs.Objects.{Objects, page_count}
 use Rattle.kfs_objects.specs.Keys.{super_key, inode_key, entry_key, chunk_key, orphan_key}
 use Rattle.kfs_objects.specs.Records.{super_value, inode_value, entry_value, orphan_value}
 use Rattle.kfs_model.specs.declared.Node.TheVariants.{Dir, File}
-use Rattle.kfs_model.specs.Tree.{Place, Name, Tree, root_alone, with_new, with_node, without_place, greatest_length, charge, chunks, IsTree, IsName, IsKept, IsNameless, number_at, node_of}
+use Rattle.kfs_model.specs.Tree.{Place, Name, Tree, root_alone, with_new, with_node, without_place, renamed, below, greatest_length, charge, chunks, IsTree, IsName, IsKept, IsNameless, number_at, node_of}
 use Rattle.kfs_shows.specs.Shows.{Shows, ShowsTree, IsPiece}
 
 -- what a format writes shows a root alone, after no change
@@ -63,6 +63,68 @@ abbrev pub DroppingShows : Type 0
 DroppingShows =
     (m after : Objects) (t : Tree) (n : ℕ) → IsTree t → ShowsTree m t → n < 2 ^ 64 → t.next ≤ 2 ^ 64 → IsNameless t n → DropsNode m after n
     → IsTree (without_node t n) × ShowsTree after (without_node t n) × IsKept t (without_node t n)
+
+-- an entry's key is gone with the inode and the chunks of its node, and every other key is as before
+pub record DropsNamed (before after : Objects) (p : ℕ) (name : Name) (n : ℕ) : Type 0 where
+  pub entry : objects.get after (entry_key p name) ≡ None
+  pub inode : objects.get after (inode_key n) ≡ None
+  pub chunks : (chunk : ℕ) → chunk < 2 ^ 32 → objects.get after (chunk_key n chunk) ≡ None
+  pub others : (key : List ℕ) → key ≢ entry_key p name → key ≢ inode_key n → ((chunk : ℕ) → chunk < 2 ^ 32 → key ≢ chunk_key n chunk) → objects.get after key ≡ objects.get before key
+
+-- a name that nothing lies below is taken away together with its node
+abbrev pub UnnamingDropsShows : Type 0
+UnnamingDropsShows =
+    (m after : Objects) (t : Tree) (place : Place) (name : Name) (p n : ℕ) → IsTree t → ShowsTree m t → t.next ≤ 2 ^ 64
+    → number_at t place ≡ Some p → number_at t (place ++ name ∷ []) ≡ Some n → ((x : Name) → number_at t ((place ++ name ∷ []) ++ x ∷ []) ≡ None) → DropsNamed m after p name n
+    → IsTree (without_node (without_place t (place ++ name ∷ [])) n) × ShowsTree after (without_node (without_place t (place ++ name ∷ [])) n)
+
+-- one entry's key is gone, another's names the node, and every other key is as before
+pub record MovesEntry (before after : Objects) (p : ℕ) (was : Name) (q : ℕ) (name : Name) (n : ℕ) : Type 0 where
+  pub gone : objects.get after (entry_key p was) ≡ None
+  pub new : objects.get after (entry_key q name) ≡ Some (entry_value n)
+  pub others : (key : List ℕ) → key ≢ entry_key p was → key ≢ entry_key q name → objects.get after key ≡ objects.get before key
+
+-- a place and all below it lie at a free one in a directory that isn't below it: one entry goes and one comes
+abbrev pub RenamingShows : Type 0
+RenamingShows =
+    (m : Objects) (t : Tree) (up : Place) (was : Name) (place : Place) (name : Name) (p q n : ℕ) → IsTree t → ShowsTree m t → t.next ≤ 2 ^ 64
+    → number_at t up ≡ Some p → number_at t (up ++ was ∷ []) ≡ Some n
+    → number_at t place ≡ Some q → node_of t q ≡ Some Dir → number_at t (place ++ name ∷ []) ≡ None → IsName name
+    → below (up ++ was ∷ []) (place ++ name ∷ []) ≡ None
+    → IsTree (renamed t (up ++ was ∷ []) (place ++ name ∷ []))
+    × ShowsTree (objects.insert (objects.remove m (entry_key p was)) (entry_key q name) (entry_value n)) (renamed t (up ++ was ∷ []) (place ++ name ∷ []))
+
+-- one entry's key is gone, another's names its node, an orphan object stands for the node that was
+-- named there, and every other key is as before
+pub record MovesOverKept (before after : Objects) (p : ℕ) (was : Name) (q : ℕ) (name : Name) (n r : ℕ) : Type 0 where
+  pub gone : objects.get after (entry_key p was) ≡ None
+  pub new : objects.get after (entry_key q name) ≡ Some (entry_value n)
+  pub orphan : objects.get after (orphan_key r) ≡ Some orphan_value
+  pub others : (key : List ℕ) → key ≢ entry_key p was → key ≢ entry_key q name → key ≢ orphan_key r → objects.get after key ≡ objects.get before key
+
+-- one entry's key is gone, another's names its node, the inode and the chunks of the node that was named
+-- there are gone, and every other key is as before
+pub record MovesOverDropped (before after : Objects) (p : ℕ) (was : Name) (q : ℕ) (name : Name) (n r : ℕ) : Type 0 where
+  pub gone : objects.get after (entry_key p was) ≡ None
+  pub new : objects.get after (entry_key q name) ≡ Some (entry_value n)
+  pub inode : objects.get after (inode_key r) ≡ None
+  pub chunks : (chunk : ℕ) → chunk < 2 ^ 32 → objects.get after (chunk_key r chunk) ≡ None
+  pub others : (key : List ℕ) → key ≢ entry_key p was → key ≢ entry_key q name → key ≢ inode_key r → ((chunk : ℕ) → chunk < 2 ^ 32 → key ≢ chunk_key r chunk) → objects.get after key ≡ objects.get before key
+
+-- the same where the new place has a name that nothing lies below: its node stays without a name, or goes
+abbrev pub ReplacingShows : Type 0
+ReplacingShows =
+    (m after : Objects) (t : Tree) (up : Place) (was : Name) (place : Place) (name : Name) (p q n r : ℕ) → IsTree t → ShowsTree m t → t.next ≤ 2 ^ 64
+    → number_at t up ≡ Some p → number_at t (up ++ was ∷ []) ≡ Some n
+    → number_at t place ≡ Some q → number_at t (place ++ name ∷ []) ≡ Some r → ((x : Name) → number_at t ((place ++ name ∷ []) ++ x ∷ []) ≡ None)
+    → below (up ++ was ∷ []) (place ++ name ∷ []) ≡ None
+    → (MovesOverKept m after p was q name n r
+    → IsTree (renamed (without_place t (place ++ name ∷ [])) (up ++ was ∷ []) (place ++ name ∷ []))
+    × ShowsTree after (renamed (without_place t (place ++ name ∷ [])) (up ++ was ∷ []) (place ++ name ∷ []))
+    × IsNameless (renamed (without_place t (place ++ name ∷ [])) (up ++ was ∷ []) (place ++ name ∷ [])) r)
+    × (MovesOverDropped m after p was q name n r
+    → IsTree (renamed (without_node (without_place t (place ++ name ∷ [])) r) (up ++ was ∷ []) (place ++ name ∷ []))
+    × ShowsTree after (renamed (without_node (without_place t (place ++ name ∷ [])) r) (up ++ was ∷ []) (place ++ name ∷ [])))
 
 -- a map shows one tree and number at most
 abbrev pub ShowsOnce : Type 0

@@ -1,3 +1,4 @@
 pub mod Shows
 pub mod Laws
 pub mod Named
+pub mod Sweeping

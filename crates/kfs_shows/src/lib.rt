@@ -1,7 +1,8 @@
 //! Which objects show which tree. The functions do nothing: their contracts are laws.
 #![tactic(auto)]
 
-ghost use Rattle.kfs_shows.specs.Laws.{FirstShows, MakingShows, MakingFileShows, ContentShows, UnnamingShows, DroppingShows, ShowsOnce, ObjectsFit};
+ghost use Rattle.kfs_shows.specs.Sweeping.{UnlinkingShows, ReleasingShows, MovingShows, MovingOverShows};
+ghost use Rattle.kfs_shows.specs.Laws.{FirstShows, MakingShows, MakingFileShows, ContentShows, UnnamingShows, UnnamingDropsShows, RenamingShows, ReplacingShows, DroppingShows, ShowsOnce, ObjectsFit};
 
 /// What a format writes shows a root alone.
 pub fn first_shows()
@@ -28,9 +29,47 @@ pub fn unnaming_shows()
     ensures { UnnamingShows }
 {}
 
+/// Without its entry and its node's objects the map shows the tree without the name and the node.
+pub fn unnaming_drops_shows()
+    ensures { UnnamingDropsShows }
+{}
+
+/// With its entry under another directory and name the map shows the tree with the place, and all
+/// below it, at the new place.
+pub fn renaming_shows()
+    ensures { RenamingShows }
+{}
+
+/// The same over a name that nothing lies below, whose node stays without a name or goes.
+pub fn replacing_shows()
+    ensures { ReplacingShows }
+{}
+
 /// Without a nameless node's objects the map shows the tree without that node.
 pub fn dropping_shows()
     ensures { DroppingShows }
+{}
+
+/// Where a name goes whose node is open the map with an orphan object shows the swept tree, and else
+/// the map without that node's objects.
+pub fn unlinking_shows()
+    ensures { UnlinkingShows }
+{}
+
+/// Where a nameless node is open no more the map without its objects shows the swept tree.
+pub fn releasing_shows()
+    ensures { ReleasingShows }
+{}
+
+/// Where a place moves to a free one the map shows the swept tree with it there, and nothing goes.
+pub fn moving_shows()
+    ensures { MovingShows }
+{}
+
+/// Where a place moves over another whose node is open the map with an orphan object shows the swept
+/// tree, and else the map without that node's objects.
+pub fn moving_over_shows()
+    ensures { MovingOverShows }
 {}
 
 /// A map shows one tree at most.

@@ -164,7 +164,7 @@ impl<D: Device> Running<D> {
 
     /// Counts one change, and commits where a boundary falls: true exactly there.
     pub fn change(&mut self, alloc: Global, weight: u32, next: u64) -> Result<bool, DeviceFault>
-        requires age { age_of self.old < 2 ^ 63 - 2 ^ 39 }
+        requires age { age_of self.old < 2 ^ 63 - 2 ^ 38 - 2 ^ 17 }
         requires next { (self.old.run.next ≤ next) × (next ≤ self.old.run.next + 1) }
         ensures boundary { IfOk result (λ falls. falls ≡ is_full (self.old.run.since + 1) (self.old.run.weight + weight)) }
         ensures ok { OnOk result (self.new.run ≡ one_change self.old.run weight next) }
