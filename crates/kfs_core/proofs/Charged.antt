@@ -1,4 +1,4 @@
--- The charge that a mount counts is the tree's.
+-- The charge and the chunks that a mount counts are the tree's.
 use Rattle.std.proofs.Common.{◌≡◌, ◌≢◌, ℕ, suc, ◌<◌, ◌≤◌, ◌+◌, ◌-◌, ◌*◌, ◌^◌, ◌&&◌, inl, inr, not, true, false, cond, Bool, T, refl, sym, ◌∙◌, ap, arith, List, [], ◌∷◌, ◌++◌, length, map, filter, take, sum_by, Option, Some, None}
 use Rattle.std.specs.Option.{option_map}
 use Rattle.std.specs.Ordering.{nat_cmp, eq_by_cmp, is_eq, is_lt, is_gt}
@@ -24,15 +24,17 @@ use Rattle.kfs_shows.proofs.Lookups.{same_bytes, decide_number, tie_test, apart_
 use Rattle.kfs_shows.proofs.KeysApart.{kinds, same_inode}
 use Rattle.kfs_shows.proofs.Charging.{sum_by-put}
 use Rattle.kfs_core.specs.Stands.{Stands}
-use Rattle.kfs_core.specs.Counted.{weigh, charge_in}
+use Rattle.kfs_core.specs.Counted.{weigh, weigh_chunks, charge_in, chunks_in}
 use Rattle.kfs_core.proofs.Ways.{kind_of, read_inode_of}
 
 sum_map : {X Y : Type 0} (f : X → Y) (g : Y → ℕ) (xs : List X) → sum_by (λ x. g (f x)) xs ≡ sum_by g (map f xs)
 sum_map f g [] = refl
 sum_map f g (x ∷ xs) = sum_by-cons (λ x. g (f x)) x xs ∙ ap (λ n. g (f x) + n) (sum_map f g xs) ∙ sym (sum_by-cons g (f x) (map f xs))
 
-pub all_weighed : (pairs : List Pair) (es : List (List ℕ × List ℕ)) (i : ℕ) → map pair_of pairs ≡ es → length pairs ≤ i → sum_by (λ (p : Pair). weigh (read_inode p.value)) (take i pairs) ≡ sum_by (λ (e : List ℕ × List ℕ). weigh (read_inode e.1)) es
-all_weighed pairs es i e le = ap (sum_by (λ (p : Pair). weigh (read_inode p.value))) (take_all i pairs le) ∙ sum_map pair_of (λ (e : List ℕ × List ℕ). weigh (read_inode e.1)) pairs ∙ ap (sum_by (λ (e : List ℕ × List ℕ). weigh (read_inode e.1))) e
+pub all_weighed : (weight : Option (ℕ × ℕ) → ℕ) (pairs : List Pair) (es : List (List ℕ × List ℕ)) (i : ℕ) → map pair_of pairs ≡ es → length pairs ≤ i
+    → sum_by (λ (p : Pair). weight (read_inode p.value)) (take i pairs) ≡ sum_by (λ (e : List ℕ × List ℕ). weight (read_inode e.1)) es
+all_weighed weight pairs es i e le =
+    ap (sum_by (λ (p : Pair). weight (read_inode p.value))) (take_all i pairs le) ∙ sum_map pair_of (λ (e : List ℕ × List ℕ). weight (read_inode e.1)) pairs ∙ ap (sum_by (λ (e : List ℕ × List ℕ). weight (read_inode e.1))) e
 
 abbrev inodes : List (ℕ × Node) → List (List ℕ × List ℕ)
 inodes [] = []
@@ -81,28 +83,28 @@ number_missing : (n : ℕ) (es : List (ℕ × Node)) → T (below_all nat_cmp n 
 number_missing n [] h = refl
 number_missing n (e ∷ es) h = ap (λ b. cond b (Some e.1) (find nat_cmp n es)) (lt_apart (nat_cmp n e.0) (first_of _ _ h)) ∙ number_missing n es (second_of _ _ h)
 
-abbrev weighed : List ℕ × List ℕ → ℕ
-weighed e = weigh (read_inode e.1)
+abbrev weighed : (Option (ℕ × ℕ) → ℕ) → List ℕ × List ℕ → ℕ
+weighed weight e = weight (read_inode e.1)
 
 no_length : {A : Type 0} (es : List A) → length es ≡ 0 → es ≡ []
 no_length [] e = refl
 no_length (x ∷ es) e = absurd (omega arith)
 
 -- the order doesn't matter for the sum
-sum_entries : (es : List (ℕ × Node)) → T (is_sorted nat_cmp es) → AllLow es → sum_by weighed (objects.entries (objects.from_entries {R = bytes_cmp} (inodes es))) ≡ sum_by weighed (inodes es)
-sum_entries [] h low = ap (sum_by weighed) nothing
+sum_entries : (weight : Option (ℕ × ℕ) → ℕ) (es : List (ℕ × Node)) → T (is_sorted nat_cmp es) → AllLow es → sum_by (weighed weight) (objects.entries (objects.from_entries {R = bytes_cmp} (inodes es))) ≡ sum_by (weighed weight) (inodes es)
+sum_entries weight [] h low = ap (sum_by (weighed weight)) nothing
   where
     nothing : objects.entries (objects.empty {X = List ℕ} {R = bytes_cmp}) ≡ []
     nothing = no_length _ (sym (objects.len-entries (objects.empty {X = List ℕ} {R = bytes_cmp})) ∙ objects.len-empty bytes_cmp (List ℕ))
-sum_entries (x ∷ es) h low =
+sum_entries weight (x ∷ es) h low =
     let rest = objects.from_entries {R = bytes_cmp} (inodes es) in
     let missing : find bytes_cmp (inode_key x.0) (objects.entries rest) ≡ None =
     sym (objects.get-entries rest (inode_key x.0)) ∙ objects.get-from_entries nat_list_cmp_total (inodes es) (inode_key x.0) ∙ inode_find es x.0 low.0 low.1 ∙ ap (option_map inode_of) (number_missing x.0 es (first_of _ _ h)) in
-    ap (sum_by weighed) (objects.entries-insert nat_list_cmp_total rest (inode_key x.0) (inode_of x.1))
-    ∙ sum_by-put weighed bytes_cmp (inode_key x.0) (inode_of x.1) (objects.entries rest) missing
-    ∙ ap (λ n. n + weighed (inode_key x.0, inode_of x.1)) (sum_entries es (second_of _ _ h) low.1)
-    ∙ (let s : sum_by weighed (inodes es) + weighed (inode_key x.0, inode_of x.1) ≡ weighed (inode_key x.0, inode_of x.1) + sum_by weighed (inodes es) = omega arith in s)
-    ∙ sym (sum_by-cons weighed (inode_key x.0, inode_of x.1) (inodes es))
+    ap (sum_by (weighed weight)) (objects.entries-insert nat_list_cmp_total rest (inode_key x.0) (inode_of x.1))
+    ∙ sum_by-put (weighed weight) bytes_cmp (inode_key x.0) (inode_of x.1) (objects.entries rest) missing
+    ∙ ap (λ n. n + weighed weight (inode_key x.0, inode_of x.1)) (sum_entries weight es (second_of _ _ h) low.1)
+    ∙ (let s : sum_by (weighed weight) (inodes es) + weighed weight (inode_key x.0, inode_of x.1) ≡ weighed weight (inode_key x.0, inode_of x.1) + sum_by (weighed weight) (inodes es) = omega arith in s)
+    ∙ sym (sum_by-cons (weighed weight) (inode_key x.0, inode_of x.1) (inodes es))
 
 abbrev AllShort : List (ℕ × Node) → Type 0
 AllShort [] = Unit {0}
@@ -112,14 +114,26 @@ weigh_node : (x : Node) → weigh (Some (kind_of x)) ≡ 2 + chunks_of x
 weigh_node Dir = refl
 weigh_node (File bytes) = refl
 
-sum_nodes : (es : List (ℕ × Node)) → AllShort es → sum_by weighed (inodes es) ≡ 2 * length es + sum_by (λ e. chunks_of e.1) es
+sum_nodes : (es : List (ℕ × Node)) → AllShort es → sum_by (weighed weigh) (inodes es) ≡ 2 * length es + sum_by (λ e. chunks_of e.1) es
 sum_nodes [] h = refl
 sum_nodes (x ∷ es) h =
-    let w : weighed (inode_key x.0, inode_of x.1) ≡ 2 + chunks_of x.1 = ap weigh (read_inode_of x.1 h.0) ∙ weigh_node x.1 in
+    let w : weighed weigh (inode_key x.0, inode_of x.1) ≡ 2 + chunks_of x.1 = ap weigh (read_inode_of x.1 h.0) ∙ weigh_node x.1 in
     let r = sum_nodes es h.1 in
-    sum_by-cons weighed (inode_key x.0, inode_of x.1) (inodes es)
-    ∙ (let s : weighed (inode_key x.0, inode_of x.1) + sum_by weighed (inodes es) ≡ 2 * suc (length es) + (chunks_of x.1 + sum_by (λ e. chunks_of e.1) es) = omega arith in s)
+    sum_by-cons (weighed weigh) (inode_key x.0, inode_of x.1) (inodes es)
+    ∙ (let s : weighed weigh (inode_key x.0, inode_of x.1) + sum_by (weighed weigh) (inodes es) ≡ 2 * suc (length es) + (chunks_of x.1 + sum_by (λ e. chunks_of e.1) es) = omega arith in s)
     ∙ ap (λ n. 2 * suc (length es) + n) (sym (sum_by-cons (λ (e : ℕ × Node). chunks_of e.1) x es))
+
+weigh_node_chunks : (x : Node) → weigh_chunks (Some (kind_of x)) ≡ chunks_of x
+weigh_node_chunks Dir = refl
+weigh_node_chunks (File bytes) = refl
+
+sum_chunks : (es : List (ℕ × Node)) → AllShort es → sum_by (weighed weigh_chunks) (inodes es) ≡ sum_by (λ e. chunks_of e.1) es
+sum_chunks [] h = refl
+sum_chunks (x ∷ es) h =
+    let w : weighed weigh_chunks (inode_key x.0, inode_of x.1) ≡ chunks_of x.1 = ap weigh_chunks (read_inode_of x.1 h.0) ∙ weigh_node_chunks x.1 in
+    sum_by-cons (weighed weigh_chunks) (inode_key x.0, inode_of x.1) (inodes es)
+    ∙ (λ i. w i + sum_chunks es h.1 i)
+    ∙ sym (sum_by-cons (λ (e : ℕ × Node). chunks_of e.1) x es)
 
 shift : (a b : ℕ) → 1 + (2 * a + b) ≡ 1 + 2 * a + b
 shift a b = omega arith
@@ -203,9 +217,13 @@ module _ (m : Objects) (t : Tree) (stands : Stands m t) where
   unfolding pairs_from
   pairs_same = same_entries bytes_cmp nat_list_cmp_total same_bytes _ _ (is_sorted-where_key bytes_cmp wanted (objects.entries m) (objects.entries_sorted m)) (objects.entries_sorted (objects.from_entries {R = bytes_cmp} (inodes t.nodes))) found_same
 
-  sum_same : objects.len m < 2 ^ 32 → sum_by weighed (take (2 ^ 32 - 1) (pairs_from m inode_front inode_front)) ≡ 2 * length t.nodes + chunks t
-  sum_same few = ap (sum_by weighed) (take_all (2 ^ 32 - 1) (pairs_from m inode_front inode_front) (let h = few_pairs in omega arith) ∙ pairs_same) ∙ sum_entries t.nodes stands.tree.sorted_nodes facts.0 ∙ sum_nodes t.nodes facts.1
+  sum_same : (weight : Option (ℕ × ℕ) → ℕ) → objects.len m < 2 ^ 32 → sum_by (weighed weight) (take (2 ^ 32 - 1) (pairs_from m inode_front inode_front)) ≡ sum_by (weighed weight) (inodes t.nodes)
+  sum_same weight few = ap (sum_by (weighed weight)) (take_all (2 ^ 32 - 1) (pairs_from m inode_front inode_front) (let h = few_pairs in omega arith) ∙ pairs_same) ∙ sum_entries weight t.nodes stands.tree.sorted_nodes facts.0
 
   pub charge_same : objects.len m < 2 ^ 32 → charge_in m ≡ charge t
   unfolding charge_in
-  charge_same few = ap (λ n. 1 + n) (sum_same few) ∙ shift (length t.nodes) (chunks t)
+  charge_same few = ap (λ n. 1 + n) (sum_same weigh few ∙ sum_nodes t.nodes facts.1) ∙ shift (length t.nodes) (chunks t)
+
+  pub chunks_same : objects.len m < 2 ^ 32 → chunks_in m ≡ chunks t
+  unfolding chunks_in
+  chunks_same few = sum_same weigh_chunks few ∙ sum_chunks t.nodes facts.1

@@ -21,7 +21,7 @@ use Rattle.kfs_core.specs.Flat.{Where, at_root, walk_in, found_in, told_in, stat
 use Rattle.kfs_core.proofs.Pieces.{IsPart, path_named, path_parts, ok_is}
 use Rattle.kfs_core.proofs.Ways.{IsSpot, Alike, entry_of, kind_of, inode_at, walks, root_spot}
 
-syntax_named : (bytes : List ℕ) (route : Route) → syntax bytes ≡ Ok route → AllByRecursion IsPart route.pieces
+pub syntax_named : (bytes : List ℕ) (route : Route) → syntax bytes ≡ Ok route → AllByRecursion IsPart route.pieces
 syntax_named bytes route e = by (is_empty bytes) (is_too_long bytes) refl refl e
   where
     by : (a b : Bool) → is_empty bytes ≡ a → is_too_long bytes ≡ b → (ENOENT when a) >> ((ENAMETOOLONG when b) >> Ok (record { pieces = pieces_of bytes; trailing = ends_in_slash bytes })) ≡ Ok route → AllByRecursion IsPart route.pieces
@@ -85,7 +85,7 @@ module _ (m : Objects) (t : Tree) (stands : Stands m t) where
   SamePlace (Err e) (Ok w) = ⊥
   SamePlace (Err e) (Err f) = e ≡ f
 
-  there_same : (place : Place) (w : Where) → IsSpot t place w → is_there t place ≡ is_some w.node
+  pub there_same : (place : Place) (w : Where) → IsSpot t place w → is_there t place ≡ is_some w.node
   there_same place w spot = by (number_at t place) refl ∙ ap (is_some {T = ℕ}) (sym spot.node)
     where
       by : (o : Option ℕ) → number_at t place ≡ o → is_some (entry_of m t stands o) ≡ is_some o

@@ -1,5 +1,5 @@
 -- The walk and its answers, over objects.
-use Rattle.std.specs.Prelude.{ℕ, ◌+◌, ◌-◌, ◌==◌, ◌^◌, nat_lt, Bool, List, [], ◌∷◌, ◌++◌, length, take, drop, map, get_or, Option, Some, None, is_some, Result, Ok, Err, if◌then◌else◌}
+use Rattle.std.specs.Prelude.{ℕ, ◌+◌, ◌-◌, ◌==◌, ◌&&◌, ◌^◌, nat_lt, Bool, List, [], ◌∷◌, ◌++◌, length, take, drop, map, get_or, Option, Some, None, is_some, Result, Ok, Err, if◌then◌else◌}
 use Rattle.std.specs.Option.{option_map, option_and_then}
 use Rattle.std.specs.FinMap as objects
 use Rattle.kv_device.specs.Objects.{Objects, pairs_from}
@@ -90,12 +90,41 @@ place_at m keys charge route = do
   ENOSPC when nat_lt keys (charge + 2)
   Ok w
 
+-- where a new node goes: kind 1 is a directory, kind 2 a file, whose path has no trailing slash
+abbrev pub new_at : Objects → ℕ → ℕ → ℕ → Route → Result Where Errno
+new_at m keys charge kind route = do
+  w ← walk_in m at_root route.pieces
+  EEXIST when is_some w.node
+  ENOENT when (kind == 2 && route.trailing)
+  ENOSPC when nat_lt keys (charge + 2)
+  Ok w
+
+-- where a new file goes
+abbrev pub create_at : Objects → ℕ → ℕ → Route → Result Where Errno
+create_at m keys charge route = do
+  w ← walk_in m at_root route.pieces
+  EEXIST when is_some w.node
+  ENOENT when route.trailing
+  ENOSPC when nat_lt keys (charge + 2)
+  Ok w
+
 abbrev pub place_in : Objects → ℕ → ℕ → List ℕ → Result Where Errno
 place_in m keys charge path = do
   route ← syntax path
   place_at m keys charge route
 
+abbrev pub create_in : Objects → ℕ → ℕ → List ℕ → Result Where Errno
+create_in m keys charge path = do
+  route ← syntax path
+  create_at m keys charge route
+
 -- ---- node by node
+
+-- what a path names, where its walk comes to its end
+abbrev pub reach_in : Objects → Route → Result (Option (ℕ × ℕ × ℕ)) Errno
+reach_in m route = do
+  w ← walk_in m at_root route.pieces
+  Ok (found_in m w.node)
 
 -- the node that a walk found; a trailing slash wants a directory
 abbrev pub node_in : Option (ℕ × ℕ × ℕ) → Bool → Result ℕ Errno

@@ -3,7 +3,14 @@ pub mod Gives
 pub mod Flat
 pub mod Spot
 pub mod Making
+pub mod Clearing
 pub mod Stands
 pub mod Counted
 pub mod Core
+pub mod Room
+pub mod Files
+pub mod Removing
+pub mod Renaming
+pub mod Resizing
+pub mod Listing
 pub mod Starting

@@ -1,5 +1,5 @@
 -- What a mount finds and leaves, and what a format leaves.
-use Rattle.std.specs.Prelude.{ℕ, ◌≡◌, ◌<◌, ◌^◌, ◌⊎◌, Some}
+use Rattle.std.specs.Prelude.{◌≡◌, ◌<◌, ◌^◌, ◌⊎◌, Some}
 use Rattle.std.specs.Option.{option_and_then}
 use Rattle.std.specs.FinMap as objects
 use Rattle.kv_device.specs.declared.fault.DeviceFault.{DeviceFault}
@@ -10,10 +10,11 @@ use Rattle.kv_device.specs.Calls.{Rises}
 use Rattle.kfs_objects.specs.declared.records.Super.{Super}
 use Rattle.kfs_objects.specs.Keys.{super_key, inode_key}
 use Rattle.kfs_objects.specs.Records.{super_value, inode_value, read_super}
-use Rattle.kfs_tx.specs.Run.{SameBounds, CausedAlone, started, opened}
+use Rattle.kfs_tx.specs.Run.{SameBounds, CausedAlone}
 use Rattle.kfs_core.specs.declared.fault.HostFault.{HostFault}
 use Rattle.kfs_core.specs.declared.fault.HostFault.TheVariants.{Damaged, Cut, Eio, NoMem}
-use Rattle.kfs_core.specs.Counted.{charge_in}
+use Rattle.kfs_core.specs.Clearing.{Keeps, Cleared, begun_over}
+use Rattle.kfs_core.specs.Counted.{charge_in, chunks_in}
 use Rattle.kfs_core.specs.Core.{KfsState, run_in}
 
 -- a fault of the device, as a mount tells it
@@ -29,28 +30,32 @@ HostCause old Cut new = Rises old.cuts new.cuts old.most_cuts × (new.faults ≡
 HostCause old Eio new = Rises old.faults new.faults old.most_faults × (new.cuts ≡ old.cuts)
 HostCause old NoMem new = (new.cuts ≡ old.cuts) × (new.faults ≡ old.faults)
 
--- a mount failed so, and left what the device holds
+-- a mount failed so, and left the tree that the device holds, without some of its nameless nodes, possibly none
 pub record NotMounted (old : Machine) (fault : HostFault) (new : Machine) : Type 0 where
   pub cause : HostCause old fault new
-  pub stable : new.stable ≡ old.stable
+  pub keeps : Keeps old.stable new.stable
   pub bounds : SameBounds old new
 
--- a mount began the first transaction with the numbers of the super that is stored, and counted the charge
+-- a mount began with the numbers of the super that is stored, removed the nameless nodes, and counted the charge and the chunks
 pub record Started (old : Machine) (new : KfsState) : Type 0 where
   pub head : option_and_then read_super (objects.get old.stable super_key) ≡ Some ((run_in new).changes, (run_in new).next)
-  pub run : run_in new ≡ started old (run_in new).changes (run_in new).next
+  pub cleared : Cleared old.stable (run_in new).machine.stable
+  pub run : run_in new ≡ begun_over old (run_in new).machine.stable (run_in new).changes (run_in new).next
   pub keys : new.keys ≡ old.room_keys
   pub pages : new.pages ≡ old.room_pages
-  pub charge : new.charge ≡ charge_in old.stable
+  pub charge : new.charge ≡ charge_in (run_in new).machine.stable
+  pub chunks : new.chunks ≡ chunks_in (run_in new).machine.stable
   pub changes : (run_in new).changes < 2 ^ 62
   pub next : (run_in new).next < 2 ^ 62
 
 -- the same, of this super
 pub record Starts (old : Machine) (head : Super) (new : KfsState) : Type 0 where
-  pub run : run_in new ≡ opened old head
+  pub cleared : Cleared old.stable (run_in new).machine.stable
+  pub run : run_in new ≡ begun_over old (run_in new).machine.stable head.changes head.next
   pub keys : new.keys ≡ old.room_keys
   pub pages : new.pages ≡ old.room_pages
-  pub charge : new.charge ≡ charge_in old.stable
+  pub charge : new.charge ≡ charge_in (run_in new).machine.stable
+  pub chunks : new.chunks ≡ chunks_in (run_in new).machine.stable
 
 -- the objects of a root alone
 abbrev pub first_objects : Objects

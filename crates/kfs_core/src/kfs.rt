@@ -4,16 +4,19 @@ ghost use Rattle.kv_device.specs.Machine.{none_open, with_most_cuts, with_most_f
 ghost use Rattle.kv_device.specs.Calls.{Ages};
 ghost use Rattle.kfs_objects.specs.Keys.{IsNamed};
 ghost use Rattle.kfs_tx.specs.Run.{age_of, Aged, seen, committed};
+ghost use Rattle.kfs_core.specs.Clearing.{Clears, ClearFails, IsFresh, NoOrphans};
 ghost use Rattle.kfs_core.specs.Core.{run_in, Stays};
+ghost use Rattle.kfs_core.specs.Counted.{charge_in, chunks_in};
 ghost use Rattle.kfs_core.specs.Flat.{lookup_in, inode_in, inode_at, children_at, place_at};
 ghost use Rattle.kfs_core.specs.Gives.{Gives, Leaves, CommitFails};
 ghost use Rattle.kfs_core.specs.Making.{MkdirDoes};
 ghost use Rattle.kfs_core.specs.Spot.{route_of};
 ghost use Rattle.kfs_core.specs.Starting.{Started, Starts, NotMounted};
 
-use crate::counting::charge;
+use crate::clearing::clear;
+use crate::counting::{Taken, count};
 use crate::directories::{names, place};
-use crate::making::make_directory;
+use crate::making::add_node;
 use crate::mounting::{host_fault, is_low, stored_super};
 use crate::walking::{found, inode, parent, walk};
 use crate::{CoreFault, HostFault};
@@ -28,10 +31,11 @@ use std::marker::Model;
 /// A mounted file system.
 #[derive(Drop)]
 pub struct Kfs<D: Device> {
-    run: Running<D>,
-    keys: u32,
-    pages: u32,
-    charge: u64,
+    pub(crate) run: Running<D>,
+    pub(crate) keys: u32,
+    pub(crate) pages: u32,
+    pub(crate) charge: u64,
+    pub(crate) chunks: u64,
 }
 
 impl<D: Device> Model for Kfs<D> {
@@ -42,12 +46,28 @@ impl<D: Device> Model for Kfs<D> {
 
     ghost coded = { kfs_code };
 
-    ghost view = { λ k. record { running = k.run; keys = k.keys; pages = k.pages; charge = k.charge } };
+    ghost view = { λ k. record { running = k.run; keys = k.keys; pages = k.pages; charge = k.charge; chunks = k.chunks } };
 
-    ghost invariant = { λ k. k.charge ≤ k.keys };
+    ghost invariant = { λ k. (k.charge ≤ k.keys) × (k.chunks ≤ k.pages) };
 }
 
-/// Begins the first transaction after this super, and counts the charge.
+/// Removes the nodes without a name, and counts what is left.
+fn left_over<D: Device>(alloc: Global, run: &mut Running<D>) -> Result<Taken, DeviceFault>
+    requires age { age_of run.old < 2 ^ 63 - 2 ^ 39 - 2 ^ 38 }
+    requires fresh { IsFresh run.old.run }
+    ensures clears { OnOk result (Clears run.old.run run.new.run) }
+    ensures none { OnOk result (NoOrphans (seen run.new.run)) }
+    ensures charge { IfOk result (λ n. n.charge ≡ charge_in (seen run.new.run)) }
+    ensures chunks { IfOk result (λ n. n.chunks ≡ chunks_in (seen run.new.run)) }
+    ensures err { IfErr result (λ fault. ClearFails run.old.run fault run.new.run.machine) }
+    ensures age { Aged run.old run.new (2 ^ 37) }
+{
+    clear(alloc, run)?;
+    count(alloc, run)
+}
+
+/// Begins the first transaction after this super, removes the nodes without a name, and counts the
+/// charge and the chunks.
 fn start<D: Device>(alloc: Global, device: D, head: Super) -> Result<Kfs<D>, (D, HostFault)>
     requires age { D.age device < 2 ^ 63 - 2 ^ 40 }
     requires up { (D.machine device).up ≡ true }
@@ -56,26 +76,33 @@ fn start<D: Device>(alloc: Global, device: D, head: Super) -> Result<Kfs<D>, (D,
     requires next { head.next < 2 ^ 62 }
     ensures ok { IfOk result (λ kfs. Starts (D.machine device) head kfs) }
     ensures err { IfErr result (λ e. NotMounted (D.machine device) e.1 (D.machine e.0)) }
-    ensures age { IfOk result (λ kfs. Ages (D.age device) kfs.running.device_age 0) }
-    ensures age_left { IfErr result (λ e. Ages (D.age device) (D.age e.0) 0) }
+    ensures age { IfOk result (λ kfs. Ages (D.age device) kfs.running.device_age (2 ^ 38)) }
+    ensures age_left { IfErr result (λ e. Ages (D.age device) (D.age e.0) (2 ^ 38)) }
 {
     let (keys, pages) = device.limits();
     match Running::open(alloc, device, head) {
         Err((device, fault)) => Err((device, host_fault(&fault))),
-        Ok(mut run) => match charge(alloc, &mut run) {
-            Err(fault) => Err((run.into_device(), host_fault(&fault))),
-            Ok(charge) => {
-                if charge > keys as u64 {
-                    return Err((run.into_device(), HostFault::NoMem));
+        Ok(run) => {
+            let mut run = run;
+            match left_over(alloc, &mut run) {
+                Err(fault) => Err((run.into_device(), host_fault(&fault))),
+                Ok(taken) => {
+                    if taken.charge > keys as u64 {
+                        return Err((run.into_device(), HostFault::NoMem));
+                    }
+                    if taken.chunks > pages as u64 {
+                        return Err((run.into_device(), HostFault::NoMem));
+                    }
+                    Ok(Kfs {
+                        run,
+                        keys,
+                        pages,
+                        charge: taken.charge,
+                        chunks: taken.chunks,
+                    })
                 }
-                Ok(Kfs {
-                    run,
-                    keys,
-                    pages,
-                    charge,
-                })
             }
-        },
+        }
     }
 }
 
@@ -88,8 +115,8 @@ impl<D: Device> Kfs<D> {
         requires room { (D.machine device).room_keys ≤ 68544 }
         ensures ok { IfOk result (λ kfs. Started (D.machine device) kfs) }
         ensures err { IfErr result (λ e. NotMounted (D.machine device) e.1 (D.machine e.0)) }
-        ensures age { IfOk result (λ kfs. Ages (D.age device) kfs.running.device_age 0) }
-        ensures age_left { IfErr result (λ e. Ages (D.age device) (D.age e.0) 0) }
+        ensures age { IfOk result (λ kfs. Ages (D.age device) kfs.running.device_age (2 ^ 38)) }
+        ensures age_left { IfErr result (λ e. Ages (D.age device) (D.age e.0) (2 ^ 38)) }
     {
         let mut device = device;
         match stored_super(alloc, &mut device) {
@@ -146,14 +173,15 @@ impl<D: Device> Kfs<D> {
         ensures does { MkdirDoes (run_in self.old) (place_at (seen (run_in self.old)) self.old.keys self.old.charge (route_of path.now)) result (run_in self.new) }
         ensures charge { OnOk result (self.new.charge ≡ self.old.charge + 2) }
         ensures same_charge { IfErr result (λ _. self.new.charge ≡ self.old.charge) }
+        ensures chunks { self.new.chunks ≡ self.old.chunks }
         ensures keys { self.new.keys ≡ self.old.keys }
         ensures pages { self.new.pages ≡ self.old.pages }
         ensures age { Aged self.old.running self.new.running (2 ^ 16) }
     {
-        let spot = place(alloc, &mut self.run, self.keys, self.charge, path)?;
+        let spot = place(alloc, &mut self.run, self.keys, self.charge, 1, path)?;
         let parent = parent(&spot);
         let name = spot.name.bytes();
-        let node = make_directory(alloc, &mut self.run, parent, name)?;
+        let node = add_node(alloc, &mut self.run, 1, parent, name)?;
         self.charge += 2;
         Ok(node)
     }

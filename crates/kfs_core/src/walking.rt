@@ -4,10 +4,11 @@ ghost use Rattle.std.specs.Option.{option_map};
 ghost use Rattle.kfs_objects.specs.Keys.{IsNamed};
 ghost use Rattle.kfs_tx.specs.Run.{age_of, Aged, seen, GetFault};
 ghost use Rattle.kfs_core.specs.Gives.{Gives, Leaves};
-ghost use Rattle.kfs_core.specs.Flat.{inode_in, find_in, enter_at, enter_in, further_in, walk_in, found_in, at_root};
+ghost use Rattle.kfs_core.specs.Flat.{inode_in, enter_at, enter_in, further_in, walk_in, found_in, at_root};
 
 use crate::CoreFault;
-use kfs_objects::{EntryRecord, Inode, entry_key, inode_key};
+use kfs_dir::find;
+use kfs_objects::{Inode, inode_key};
 use kfs_path::Errno;
 use kfs_tx::Running;
 use kv_base::Text;
@@ -51,30 +52,6 @@ pub fn inode<D: Device>(
     match run.get(alloc, &key)? {
         None => Ok(None),
         Some(value) => Ok(Inode::read(&value)),
-    }
-}
-
-/// The node under a name.
-fn child<D: Device>(
-    alloc: Global,
-    run: &mut Running<D>,
-    parent: u64,
-    name: &[u8],
-) -> Result<Option<u64>, DeviceFault>
-    requires age { age_of run.old < 2 ^ 63 - 2 ^ 39 }
-    requires named { IsNamed name.now }
-    ensures gives { IfOk result (λ i. i ≡ find_in (seen run.old.run) parent name.now) }
-    ensures same { OnOk result (run.new.run ≡ run.old.run) }
-    ensures err { IfErr result (λ fault. GetFault run.old.run fault run.new.run.machine) }
-    ensures age { Aged run.old run.new 0 }
-{
-    let key = entry_key(alloc, parent, name)?;
-    match run.get(alloc, &key)? {
-        None => Ok(None),
-        Some(value) => match EntryRecord::read(&value) {
-            None => Ok(None),
-            Some(entry) => Ok(Some(entry.node)),
-        },
     }
 }
 
@@ -139,7 +116,7 @@ fn go_on<D: Device>(
     }
     spot.above.push(directory)?;
     spot.name = piece.copy(alloc)?;
-    spot.node = child(alloc, run, directory, piece.bytes())?;
+    spot.node = find(alloc, run, directory, piece.bytes())?;
     Ok(())
 }
 

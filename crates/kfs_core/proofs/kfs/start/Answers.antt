@@ -1,15 +1,21 @@
-use Rattle.std.proofs.Common.{◌∙◌, ap}
-use Rattle.kfs_tx.specs.Run.{seen}
-use Rattle.kfs_tx.proofs.Opening.{sees_stable}
-use Rattle.kfs_core.specs.Counted.{charge_in}
+use Rattle.std.proofs.Common.{◌∙◌, ap, subst}
+use Rattle.kfs_tx.specs.Run.{Run}
+use Rattle.kfs_core.specs.Clearing.{Clears, with_stable}
+use Rattle.kfs_core.specs.Counted.{charge_in, chunks_in}
+use Rattle.kfs_core.proofs.Cleared.{sees_now, now_cleared}
 use Rattle.kfs_core.proofs.kfs.start.Goals as goal
 
-pub returns-else-charge-keys-clause-ok : goal.returns-else-charge-keys-clause-ok
-returns-else-charge-keys-clause-ok g c =
-    let opened = c.in-Ok.ensures.ok in
+pub returns-else-taken-pages-clause-ok : goal.returns-else-taken-pages-clause-ok
+returns-else-taken-pages-clause-ok g c =
+    let m = g.D.Device.machine c.args.device in
+    let r = c.left_over.new.run.run in
+    let clears = subst (λ (old : Run). Clears old r) c.in-Ok.ensures.ok c.in-Ok-left_over.ensures.clears in
+    let now = sees_now m c.args.head.changes c.args.head.next r c.requires.up c.requires.idle clears in
     record {
-      run = c.in-Ok-charge.ensures.same ∙ opened;
+      cleared = now_cleared m c.args.head.changes c.args.head.next r c.requires.up c.requires.idle clears c.in-Ok-left_over.ensures.none;
+      run = clears.same;
       keys = c.limits-keys.ensures.keys;
       pages = c.limits-keys.ensures.pages;
-      charge = c.in-Ok-charge.ensures.gives ∙ ap (λ r. charge_in (seen r)) opened ∙ ap charge_in (sees_stable (g.D.Device.machine c.args.device) c.requires.up c.requires.idle);
+      charge = c.in-Ok-left_over.ensures.charge ∙ ap charge_in now;
+      chunks = c.in-Ok-left_over.ensures.chunks ∙ ap chunks_in now;
     }

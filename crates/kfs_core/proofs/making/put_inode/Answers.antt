@@ -5,7 +5,7 @@ use Rattle.kfs_core.proofs.Ages.{inode_ages}
 use Rattle.kfs_core.proofs.making.put_inode.Goals as goal
 
 pub returns-in_err-set-clause-age : goal.returns-in_err-set-clause-age
-returns-in_err-set-clause-age g c = subst (Aged c.args.run.now c.set.new.self) (ap set_ages c.in_ok-value.ensures ∙ inode_ages 1 0) c.set.ensures.age
+returns-in_err-set-clause-age g c = subst (Aged c.args.run.now c.set.new.self) (ap set_ages c.in_ok-value.ensures ∙ inode_ages c.args.inode.kind c.args.inode.length) c.set.ensures.age
 
 pub returns-clause-age : goal.returns-clause-age
-returns-clause-age g c = subst (Aged c.args.run.now c.set.new.self) (ap set_ages c.in_ok-value.ensures ∙ inode_ages 1 0) c.set.ensures.age
+returns-clause-age g c = subst (Aged c.args.run.now c.set.new.self) (ap set_ages c.in_ok-value.ensures ∙ inode_ages c.args.inode.kind c.args.inode.length) c.set.ensures.age

@@ -1,0 +1,24 @@
+use Rattle.std.proofs.Common.{◌^◌, ◌*◌, ◌+◌, ◌∙◌, sym, ap, subst, arith}
+use Rattle.std.proofs.lemmas.Result.{err_from_is_err_and}
+use Rattle.kfs_core.proofs.Cleared.{clears_both, clear_fails_after}
+use Rattle.kfs_core.proofs.clearing.clear.Goals as goal
+
+pub returns-in_err-clear_next-clause-err : goal.returns-in_err-clear_next-clause-err
+returns-in_err-clear_next-clause-err g c =
+    let p = err_from_is_err_and c.from_residual.result c.from_residual.ensures.1 in
+    rw (p.1, p.2) (clear_fails_after c.args.run.now.run c.loop-turn.run.run c.in_err-clear_next.field-0.0 c.clear_next.new.run.run.machine c.loop-turn.invariant.clears c.in_err-clear_next.ensures.err)
+
+pub returns-then-not-branch-clause-clears : goal.returns-then-not-branch-clause-clears
+returns-then-not-branch-clause-clears g c = clears_both c.args.run.now.run c.loop-turn.run.run c.clear_next.new.run.run c.loop-turn.invariant.clears c.in_ok-clear_next.ensures.clears
+
+pub loop-turn-preserved : goal.loop-turn-preserved
+loop-turn-preserved g c =
+    let first = c.loop-turn.invariant.age in
+    let then = c.in_ok-clear_next.ensures.age in
+    record {
+      clears = clears_both c.args.run.now.run c.loop-turn.run.run c.clear_next.new.run.run c.loop-turn.invariant.clears c.in_ok-clear_next.ensures.clears;
+      age = record {
+        device = record { later = omega (arith, first.device.later, then.device.later); bounded = omega (arith, first.device.bounded, then.device.bounded) };
+        whole = record { later = omega (arith, first.whole.later, then.whole.later); bounded = omega (arith, first.whole.bounded, then.whole.bounded) };
+      };
+    }

@@ -1,0 +1,11 @@
+use Rattle.std.proofs.Common.{◌*◌, ◌^◌}
+use Rattle.kfs_tx.specs.Run.{Aged}
+use Rattle.kfs_core.specs.Clearing.{Clears}
+use Rattle.kfs_core.proofs.clearing.clear.Given as goal
+
+-- so far nameless nodes alone were removed
+abbrev pub invariant-loop-turn : goal.invariant-loop-turn
+invariant-loop-turn g l = record {
+  clears : Clears l.fn.run.run l.run.run;
+  age : Aged l.fn.run l.run (2 ^ 16 * l._turn);
+}

@@ -1,0 +1,18 @@
+use Rattle.std.proofs.Common.{◌≡◌, List, ℕ, map, take, ◌∙◌, sym, ap, subst, IsSome, [], ◌∷◌}
+use Rattle.std.specs.FinMap as objects
+use Rattle.kv_device.specs.Objects.{pairs_from, pair_of}
+use Rattle.kfs_tx.specs.Run.{seen}
+use Rattle.kfs_core.proofs.Orphans.{first_there, none_there}
+use Rattle.kfs_core.proofs.clearing.first_orphan.Goals as goal
+
+pub returns-then-len-eq0-clause-none : goal.returns-then-len-eq0-clause-none
+returns-then-len-eq0-clause-none g c =
+    let m = seen c.args.run.now.run in
+    none_there m c.in_ok-pairs.pairs (sym c.len.ensures ∙ c.if-len-eq0.true)
+    (c.in_ok-pairs.ensures.found ∙ ap (λ (k : List ℕ). take 1 (pairs_from m k k)) c.in-Ok.ensures.ok.0)
+
+pub returns-clause-some : goal.returns-clause-some
+returns-clause-some g c =
+    let m = seen c.args.run.now.run in
+    subst (λ (k : List ℕ). IsSome (objects.get m k)) (sym c.in_ok-copy.ensures)
+    (first_there m (111 ∷ []) c.in_ok-pairs.pairs c.get.result.now (c.in_ok-pairs.ensures.found ∙ ap (λ (k : List ℕ). take 1 (pairs_from m k k)) c.in-Ok.ensures.ok.0) c.get.ensures)

@@ -1,0 +1,13 @@
+use Rattle.std.proofs.Common.{◌+◌, arith, subst, sym}
+use Rattle.std.proofs.lemmas.Result.{IfErr-weaker}
+use Rattle.kfs_objects.specs.Keys.{orphan_key}
+use Rattle.kfs_objects.specs.Records.{orphan_value}
+use Rattle.kfs_file.specs.Contents.{Fails}
+use Rattle.kfs_core.specs.Removing.{chunks_lost}
+use Rattle.kfs_core.proofs.Naming.{put_fails, orphan_small}
+use Rattle.kfs_core.proofs.removing.lose_name.Goals as goal
+
+pub returns-then-open_now-clause-err : goal.returns-then-open_now-clause-err
+returns-then-open_now-clause-err g c = IfErr-weaker c.put_orphan.result _ _
+    (λ fault h. subst (λ b. Fails c.args.run.now.run (1 + chunks_lost c.args.size b) fault c.put_orphan.new.run.run.machine) (sym c.if-open_now.true)
+    (put_fails c.args.run.now.run (orphan_key c.args.node) orphan_value fault c.put_orphan.new.run.run.machine orphan_small h)) c.put_orphan.ensures.err

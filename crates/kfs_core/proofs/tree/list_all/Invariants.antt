@@ -1,0 +1,12 @@
+use Rattle.std.proofs.Common.{◌≡◌}
+use Rattle.kfs_tx.specs.Run.{Aged, seen}
+use Rattle.kfs_core.proofs.Telling.{Leads}
+use Rattle.kfs_core.proofs.tree.list_all.Given as goal
+
+-- the run stays, and what is told and what is left lead to all
+abbrev pub invariant-loop-turn : goal.invariant-loop-turn
+invariant-loop-turn g l = record {
+  same : l.run.run ≡ l.fn.run.run;
+  leads : Leads (seen l.fn.run.run) l.list l.todo.items;
+  age : Aged l.fn.run l.run 0;
+}

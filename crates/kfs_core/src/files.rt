@@ -1,0 +1,246 @@
+// The calls of files.
+ghost use Rattle.std.specs.Prelude.{◌≡◌, ◌≤◌, ◌<◌, ◌+◌, ◌-◌, ◌^◌, All, length, OnOk, IfOk, IfErr};
+ghost use Rattle.kfs_objects.specs.Keys.{IsNamed};
+ghost use Rattle.kfs_path.specs.declared.call.Reply.TheVariants as replies;
+ghost use Rattle.kfs_tx.specs.Run.{age_of, Aged, seen};
+ghost use Rattle.kfs_core.specs.Core.{run_in, Stays};
+ghost use Rattle.kfs_core.specs.Flat.{create_at, inode_in, reach_in};
+ghost use Rattle.kfs_core.specs.Files.{file_at, Reads, write_in, Wrote, WriteDoes, WriteFault};
+ghost use Rattle.kfs_core.specs.Gives.{Gives, Leaves};
+ghost use Rattle.kfs_core.specs.Making.{CreateDoes};
+ghost use Rattle.kfs_core.specs.Room.{space_in, fits_in, grown};
+ghost use Rattle.kfs_core.specs.Spot.{route_of, told_of};
+
+use crate::directories::place;
+use crate::making::{add_node, put_inode};
+use crate::room::{Space, chunks_for, fits};
+use crate::walking::{found, inode, parent, walk};
+use crate::{CoreFault, Kfs};
+use kfs_file::{read_at, write_at};
+use kfs_objects::Inode;
+use kfs_path::{Errno, Path, Reply};
+use kfs_tx::Running;
+use kv_base::Text;
+use kv_device::{Device, DeviceFault};
+use std::alloc::Global;
+
+/// The most bytes of a file.
+const GREATEST_LENGTH: u64 = 1 << 20;
+
+impl<D: Device> Kfs<D> {
+    /// What a path names, and its inode, or nothing where only the last name is missing. A trailing
+    /// slash isn't judged.
+    pub fn find(&mut self, alloc: Global, path: &Path) -> Result<Option<(u64, Inode)>, CoreFault>
+        requires age { age_of self.old.running < 2 ^ 63 - 2 ^ 39 }
+        requires named { All IsNamed path.now.pieces }
+        ensures gives { Gives told_of result (reach_in (seen (run_in self.old)) (route_of path.now)) }
+        ensures leaves { Leaves (run_in self.old) result (run_in self.new) }
+        ensures rest { Stays self.old self.new }
+        ensures age { Aged self.old.running self.new.running 0 }
+    {
+        reach(alloc, &mut self.run, path)
+    }
+
+    /// Makes a file without bytes, and answers its node.
+    pub fn create(&mut self, alloc: Global, path: &Path) -> Result<u64, CoreFault>
+        requires age { age_of self.old.running < 2 ^ 63 - 2 ^ 39 }
+        requires named { All IsNamed path.now.pieces }
+        ensures node { IfOk result (λ node. node ≡ (run_in self.old).next) }
+        ensures does { CreateDoes (run_in self.old) (create_at (seen (run_in self.old)) self.old.keys self.old.charge (route_of path.now)) result (run_in self.new) }
+        ensures charge { OnOk result (self.new.charge ≡ self.old.charge + 2) }
+        ensures same_charge { IfErr result (λ _. self.new.charge ≡ self.old.charge) }
+        ensures chunks { self.new.chunks ≡ self.old.chunks }
+        ensures keys { self.new.keys ≡ self.old.keys }
+        ensures pages { self.new.pages ≡ self.old.pages }
+        ensures age { Aged self.old.running self.new.running (2 ^ 16) }
+    {
+        let spot = place(alloc, &mut self.run, self.keys, self.charge, 2, path)?;
+        let parent = parent(&spot);
+        let name = spot.name.bytes();
+        let node = add_node(alloc, &mut self.run, 2, parent, name)?;
+        self.charge += 2;
+        Ok(node)
+    }
+
+    /// At most so many bytes of a file, from an offset on.
+    pub fn read_at(
+        &mut self,
+        alloc: Global,
+        node: u64,
+        offset: u64,
+        count: u32,
+    ) -> Result<Text, CoreFault>
+        requires { age_of self.old.running < 2 ^ 63 - 2 ^ 39 }
+        ensures reads { Reads (seen (run_in self.old)) node offset count result }
+        ensures leaves { Leaves (run_in self.old) result (run_in self.new) }
+        ensures rest { Stays self.old self.new }
+        ensures age { Aged self.old.running self.new.running 0 }
+    {
+        read(alloc, &mut self.run, node, offset, count)
+    }
+
+    /// Writes as many of the bytes, 1 to 1,048,576 of them, into a file as there is room for from an
+    /// offset on, and answers how many.
+    pub fn write_at(
+        &mut self,
+        alloc: Global,
+        node: u64,
+        offset: u64,
+        bytes: &[u8],
+    ) -> Result<u64, CoreFault>
+        requires { age_of self.old.running < 2 ^ 63 - 2 ^ 39 }
+        ensures does { WriteDoes self.old node offset bytes.now result self.new }
+        ensures age { Aged self.old.running self.new.running (2 ^ 25) }
+    {
+        let space = self.space();
+        let count = bytes.len() as u64;
+        let size = writable(alloc, &mut self.run, &space, node, offset, count)?;
+        let some = fits(&space, size, offset, count);
+        let given = &bytes[..some as usize];
+        let new = put_bytes(alloc, &mut self.run, node, size, offset, given)?;
+        let more = chunks_for(new) - chunks_for(size);
+        self.charge += more;
+        self.chunks += more;
+        Ok(some)
+    }
+
+    /// What the tree takes of the keys and the pages, and how many there are.
+    pub fn room(&self) -> Reply
+        ensures { result ≡ replies.Room self.now.charge self.now.keys self.now.chunks self.now.pages }
+    {
+        Reply::Room {
+            charge: self.charge,
+            keys: self.keys as u64,
+            chunks: self.chunks,
+            pages: self.pages as u64,
+        }
+    }
+
+    /// The keys and the pages that there are, and how many are taken.
+    pub(crate) fn space(&self) -> Space
+        ensures { result ≡ space_in self.now }
+    {
+        Space {
+            keys: self.keys,
+            pages: self.pages,
+            charge: self.charge,
+            chunks: self.chunks,
+        }
+    }
+}
+
+fn reach<D: Device>(
+    alloc: Global,
+    run: &mut Running<D>,
+    path: &Path,
+) -> Result<Option<(u64, Inode)>, CoreFault>
+    requires age { age_of run.old < 2 ^ 63 - 2 ^ 39 }
+    requires named { All IsNamed path.now.pieces }
+    ensures gives { Gives told_of result (reach_in (seen run.old.run) (route_of path.now)) }
+    ensures leaves { Leaves run.old.run result run.new.run }
+    ensures age { Aged run.old run.new 0 }
+{
+    let spot = walk(alloc, run, path.pieces.items())?;
+    Ok(found(alloc, run, spot.node)?)
+}
+
+/// The length of a file.
+pub(crate) fn length_of<D: Device>(
+    alloc: Global,
+    run: &mut Running<D>,
+    node: u64,
+) -> Result<u64, CoreFault>
+    requires { age_of run.old < 2 ^ 63 - 2 ^ 39 }
+    ensures gives { Gives (λ n. n) result (file_at (inode_in (seen run.old.run) node)) }
+    ensures small { IfOk result (λ n. n ≤ 1048576) }
+    ensures leaves { Leaves run.old.run result run.new.run }
+    ensures age { Aged run.old run.new 0 }
+{
+    match inode(alloc, run, node)? {
+        None => Err(CoreFault::No(Errno::ENOENT)),
+        Some(it) => {
+            if it.kind == 1 {
+                return Err(CoreFault::No(Errno::EISDIR));
+            }
+            if it.length > GREATEST_LENGTH {
+                return Err(CoreFault::No(Errno::EFBIG));
+            }
+            Ok(it.length)
+        }
+    }
+}
+
+fn read<D: Device>(
+    alloc: Global,
+    run: &mut Running<D>,
+    node: u64,
+    offset: u64,
+    count: u32,
+) -> Result<Text, CoreFault>
+    requires { age_of run.old < 2 ^ 63 - 2 ^ 39 }
+    ensures reads { Reads (seen run.old.run) node offset count result }
+    ensures leaves { Leaves run.old.run result run.new.run }
+    ensures age { Aged run.old run.new 0 }
+{
+    let size = length_of(alloc, run, node)?;
+    Ok(read_at(alloc, run, node, size, offset, count)?)
+}
+
+/// The length of a file into which some of so many bytes may be written from an offset on.
+fn writable<D: Device>(
+    alloc: Global,
+    run: &mut Running<D>,
+    space: &Space,
+    node: u64,
+    offset: u64,
+    count: u64,
+) -> Result<u64, CoreFault>
+    requires age { age_of run.old < 2 ^ 63 - 2 ^ 39 }
+    requires charge { space.now.charge ≤ space.now.keys }
+    requires chunks { space.now.chunks ≤ space.now.pages }
+    ensures gives { Gives (λ n. n) result (write_in (seen run.old.run) space.now node offset count) }
+    ensures small { IfOk result (λ n. n ≤ 1048576) }
+    ensures some { IfOk result (λ n. 0 < fits_in space.now n offset count) }
+    ensures leaves { Leaves run.old.run result run.new.run }
+    ensures age { Aged run.old run.new 0 }
+{
+    let size = length_of(alloc, run, node)?;
+    if offset >= GREATEST_LENGTH {
+        return Err(CoreFault::No(Errno::EFBIG));
+    }
+    if fits(space, size, offset, count) == 0 {
+        return Err(CoreFault::No(Errno::ENOSPC));
+    }
+    Ok(size)
+}
+
+/// Writes the bytes into a file of so many, as one change, and gives its new length.
+fn put_bytes<D: Device>(
+    alloc: Global,
+    run: &mut Running<D>,
+    node: u64,
+    size: u64,
+    offset: u64,
+    given: &[u8],
+) -> Result<u64, DeviceFault>
+    requires age { age_of run.old < 2 ^ 63 - 2 ^ 39 }
+    requires size { size ≤ 1048576 }
+    requires some { 0 < length given.now }
+    requires fits { offset + length given.now ≤ 1048576 }
+    ensures wrote { OnOk result (Wrote run.old.run node size offset given.now run.new.run) }
+    ensures size { IfOk result (λ n. n ≡ grown size offset (length given.now)) }
+    ensures err { IfErr result (λ fault. WriteFault run.old.run node size offset given.now fault run.new.run.machine) }
+    ensures age { Aged run.old run.new (2 ^ 25) }
+{
+    let new = write_at(alloc, run, node, size, offset, given)?;
+    let inode = Inode {
+        kind: 2,
+        length: new,
+    };
+    put_inode(alloc, run, node, inode)?;
+    let last = (offset + given.len() as u64 - 1) / 4096;
+    let chunks = last - offset / 4096 + 1;
+    let next = run.head().next;
+    run.change(alloc, 2 + chunks as u32, next)?;
+    Ok(new)
+}

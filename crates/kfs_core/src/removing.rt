@@ -1,0 +1,355 @@
+// Names that are taken away, and nodes that go.
+ghost use Rattle.std.specs.Prelude.{◌≡◌, ◌+◌, ◌<◌, ◌≤◌, ◌-◌, ◌^◌, false, All, length, OnOk, IfOk, IfErr};
+ghost use Rattle.kfs_objects.specs.Keys.{IsNamed, orphan_key};
+ghost use Rattle.kfs_objects.specs.Records.{orphan_value};
+ghost use Rattle.kfs_model.specs.Step.{ends_in_dots, is_root};
+ghost use Rattle.kfs_tx.specs.Run.{age_of, Aged, seen, put_in, GetFault, PutFault};
+ghost use Rattle.kfs_file.specs.Contents.{Fails};
+ghost use Rattle.kfs_core.specs.Core.{run_in};
+ghost use Rattle.kfs_core.specs.Flat.{at_root, inode_in, walk_in};
+ghost use Rattle.kfs_core.specs.Gives.{Gives, Leaves};
+ghost use Rattle.kfs_core.specs.Removing.{Loses, Releases, ReleaseDoes, ReleaseFault, TellsNode, UnlinkDoes, UnlinkFault, Unlinks, Unnames, chunks_for, chunks_gone, chunks_lost, dir_to_go, file_to_go, has_names, is_open_in, leaf_at, release_at, rmdir_in, unlink_in};
+ghost use Rattle.kfs_core.specs.Spot.{route_of, where_of};
+
+use crate::dropping::{GREATEST_LENGTH, delete_orphan, drop_node};
+use crate::endings::{ends_in_dot, ends_in_dot_dot, ends_in_dots, is_root};
+use crate::room::chunks_for;
+use crate::walking::{Spot, found, inode, parent, walk};
+use crate::{CoreFault, Kfs};
+use kfs_dir::{is_empty, remove};
+use kfs_objects::{orphan_key, orphan_value};
+use kfs_path::{Errno, Path};
+use kfs_tx::Running;
+use kv_base::{Names, Text};
+use kv_device::{Device, DeviceFault};
+use std::alloc::Global;
+
+/// An entry, the node that it names, and that node's length.
+#[derive(Debug, Drop)]
+pub struct Leaf {
+    pub parent: u64,
+    pub name: Text,
+    pub node: u64,
+    pub size: u64,
+}
+
+impl<D: Device> Kfs<D> {
+    /// Takes a file's name away. The file goes, or stays without a name where it is open: its node is
+    /// then among `is_open`, each in 8 bytes, the high byte first. Its number is answered.
+    pub fn unlink(&mut self, alloc: Global, path: &Path, is_open: &Names) -> Result<u64, CoreFault>
+        requires age { age_of self.old.running < 2 ^ 63 - 2 ^ 39 }
+        requires named { All IsNamed path.now.pieces }
+        ensures does { UnlinkDoes self.old (unlink_in (seen (run_in self.old)) (route_of path.now)) (is_open_in is_open.now) result self.new }
+        ensures node { IfOk result (λ n. TellsNode (unlink_in (seen (run_in self.old)) (route_of path.now)) n) }
+        ensures age { Aged self.old.running self.new.running (2 ^ 16) }
+    {
+        let leaf = named_file(alloc, &mut self.run, path)?;
+        let open_now = is_open_in(is_open, leaf.node);
+        take_name(alloc, &mut self.run, &leaf, open_now)?;
+        if !open_now {
+            self.free(chunks_for(leaf.size));
+        }
+        Ok(leaf.node)
+    }
+
+    /// Takes an empty directory's name away. The directory goes, or stays without a name where it is
+    /// open, as a file. Its number is answered.
+    pub fn rmdir(&mut self, alloc: Global, path: &Path, is_open: &Names) -> Result<u64, CoreFault>
+        requires age { age_of self.old.running < 2 ^ 63 - 2 ^ 39 }
+        requires named { All IsNamed path.now.pieces }
+        ensures does { UnlinkDoes self.old (rmdir_in (seen (run_in self.old)) (route_of path.now)) (is_open_in is_open.now) result self.new }
+        ensures node { IfOk result (λ n. TellsNode (rmdir_in (seen (run_in self.old)) (route_of path.now)) n) }
+        ensures age { Aged self.old.running self.new.running (2 ^ 16) }
+    {
+        let leaf = empty_directory(alloc, &mut self.run, path)?;
+        let open_now = is_open_in(is_open, leaf.node);
+        take_name(alloc, &mut self.run, &leaf, open_now)?;
+        if !open_now {
+            self.free(chunks_for(leaf.size));
+        }
+        Ok(leaf.node)
+    }
+
+    /// Removes a node without a name that is open no more.
+    pub fn release(&mut self, alloc: Global, node: u64) -> Result<(), CoreFault>
+        requires { age_of self.old.running < 2 ^ 63 - 2 ^ 39 }
+        ensures does { ReleaseDoes self.old node (release_at (inode_in (seen (run_in self.old)) node)) result self.new }
+        ensures age { Aged self.old.running self.new.running (2 ^ 16) }
+    {
+        let size = size_to_go(alloc, &mut self.run, node)?;
+        remove_node(alloc, &mut self.run, node, size)?;
+        self.free(chunks_for(size));
+        Ok(())
+    }
+
+    /// Counts a node of so many chunks no more.
+    pub(crate) fn free(&mut self, chunks: u64)
+        requires { chunks ≤ 256 }
+        ensures { self.new ≡ record self.old { charge = self.old.charge - (2 + chunks); chunks = self.old.chunks - chunks } }
+    {
+        self.charge = self.charge.saturating_sub(2 + chunks);
+        self.chunks = self.chunks.saturating_sub(chunks);
+    }
+}
+
+/// Whether the list of open nodes has the node.
+#[tactic(auto, unfolding(kfs_objects::specs::Keys::be64))]
+pub(crate) fn is_open_in(open_nodes: &Names, node: u64) -> bool
+    ensures { result ≡ is_open_in open_nodes.now node }
+{
+    let wanted = node.to_be_bytes();
+    for open in open_nodes.items() {
+        if open.bytes() == wanted.as_slice() {
+            return true;
+        }
+    }
+    false
+}
+
+/// What a walk found, as the entry of a node of so many bytes.
+pub(crate) fn leaf_at(spot: Spot, node: u64, size: u64) -> Leaf
+    requires { 0 < length spot.above.items }
+    ensures { result ≡ leaf_at (where_of spot) node size }
+{
+    let parent = parent(&spot);
+    Leaf {
+        parent,
+        name: spot.name,
+        node,
+        size,
+    }
+}
+
+/// How far a walk came that ends in a name.
+pub(crate) fn walk_to_name<D: Device>(
+    alloc: Global,
+    run: &mut Running<D>,
+    pieces: &[Text],
+) -> Result<Spot, CoreFault>
+    requires age { age_of run.old < 2 ^ 63 - 2 ^ 39 }
+    requires named { All IsNamed pieces.now }
+    requires plain { ends_in_dots pieces.now ≡ false }
+    requires some { is_root pieces.now ≡ false }
+    ensures gives { Gives where_of result (walk_in (seen run.old.run) at_root pieces.now) }
+    ensures named { IfOk result (λ spot. IsNamed spot.name) }
+    ensures below { IfOk result (λ spot. 0 < length spot.above.items) }
+    ensures leaves { Leaves run.old.run result run.new.run }
+    ensures age { Aged run.old run.new 0 }
+{
+    let spot = walk(alloc, run, pieces)?;
+    Ok(spot)
+}
+
+/// The file whose name a path is, where that may be taken away.
+fn named_file<D: Device>(
+    alloc: Global,
+    run: &mut Running<D>,
+    path: &Path,
+) -> Result<Leaf, CoreFault>
+    requires age { age_of run.old < 2 ^ 63 - 2 ^ 39 }
+    requires named { All IsNamed path.now.pieces }
+    ensures gives { Gives (λ leaf. leaf) result (unlink_in (seen run.old.run) (route_of path.now)) }
+    ensures named { IfOk result (λ leaf. IsNamed leaf.name) }
+    ensures small { IfOk result (λ leaf. leaf.size ≤ 1048576) }
+    ensures leaves { Leaves run.old.run result run.new.run }
+    ensures age { Aged run.old run.new 0 }
+{
+    let pieces = path.pieces.items();
+    if ends_in_dots(pieces) {
+        return Err(CoreFault::No(Errno::EPERM));
+    }
+    if is_root(pieces) {
+        return Err(CoreFault::No(Errno::EPERM));
+    }
+    let spot = walk_to_name(alloc, run, pieces)?;
+    match found(alloc, run, spot.node)? {
+        None => Err(CoreFault::No(Errno::ENOENT)),
+        Some((node, it)) => {
+            if it.kind == 1 {
+                return Err(CoreFault::No(Errno::EPERM));
+            }
+            if path.trailing {
+                return Err(CoreFault::No(Errno::ENOTDIR));
+            }
+            if it.length > GREATEST_LENGTH {
+                return Err(CoreFault::No(Errno::EFBIG));
+            }
+            Ok(leaf_at(spot, node, it.length))
+        }
+    }
+}
+
+/// Whether a directory has a name in it.
+pub(crate) fn has_names<D: Device>(
+    alloc: Global,
+    run: &mut Running<D>,
+    node: u64,
+) -> Result<bool, DeviceFault>
+    requires { age_of run.old < 2 ^ 63 - 2 ^ 39 }
+    ensures gives { IfOk result (λ some. some ≡ has_names (seen run.old.run) node) }
+    ensures same { OnOk result (run.new.run ≡ run.old.run) }
+    ensures err { IfErr result (λ fault. GetFault run.old.run fault run.new.run.machine) }
+    ensures age { Aged run.old run.new 0 }
+{
+    let empty = is_empty(alloc, run, node)?;
+    Ok(!empty)
+}
+
+/// The directory whose name a path is, where that may be taken away.
+fn empty_directory<D: Device>(
+    alloc: Global,
+    run: &mut Running<D>,
+    path: &Path,
+) -> Result<Leaf, CoreFault>
+    requires age { age_of run.old < 2 ^ 63 - 2 ^ 39 }
+    requires named { All IsNamed path.now.pieces }
+    ensures gives { Gives (λ leaf. leaf) result (rmdir_in (seen run.old.run) (route_of path.now)) }
+    ensures named { IfOk result (λ leaf. IsNamed leaf.name) }
+    ensures small { IfOk result (λ leaf. leaf.size ≤ 1048576) }
+    ensures leaves { Leaves run.old.run result run.new.run }
+    ensures age { Aged run.old run.new 0 }
+{
+    let pieces = path.pieces.items();
+    if ends_in_dot(pieces) {
+        return Err(CoreFault::No(Errno::EINVAL));
+    }
+    if ends_in_dot_dot(pieces) {
+        return Err(CoreFault::No(Errno::ENOTEMPTY));
+    }
+    if is_root(pieces) {
+        return Err(CoreFault::No(Errno::EBUSY));
+    }
+    let spot = walk_to_name(alloc, run, pieces)?;
+    match found(alloc, run, spot.node)? {
+        None => Err(CoreFault::No(Errno::ENOENT)),
+        Some((node, it)) => {
+            if it.kind != 1 {
+                return Err(CoreFault::No(Errno::ENOTDIR));
+            }
+            if has_names(alloc, run, node)? {
+                return Err(CoreFault::No(Errno::ENOTEMPTY));
+            }
+            Ok(leaf_at(spot, node, 0))
+        }
+    }
+}
+
+/// Puts the object that says of a node that it has no name.
+fn put_orphan<D: Device>(alloc: Global, run: &mut Running<D>, node: u64) -> Result<(), DeviceFault>
+    requires { age_of run.old < 2 ^ 63 - 2 ^ 39 }
+    ensures ok { OnOk result (run.new.run ≡ put_in run.old.run (orphan_key node) orphan_value) }
+    ensures err { IfErr result (λ fault. PutFault run.old.run (orphan_key node) orphan_value fault run.new.run.machine) }
+    ensures age { Aged run.old run.new 0 }
+{
+    let key = orphan_key(alloc, node)?;
+    let value = orphan_value(alloc)?;
+    run.set(alloc, &key, &value)?;
+    Ok(())
+}
+
+/// The chunks that go with a node of so many bytes that loses its name.
+pub(crate) fn chunks_lost(size: u64, open_now: bool) -> u64
+    requires { size ≤ 1048576 }
+    ensures gives { result ≡ chunks_lost size open_now }
+    ensures few { result ≤ 256 }
+{
+    if open_now { 0 } else { chunks_for(size) }
+}
+
+/// A node that lost its name gets an orphan object where it is open, else it goes.
+pub(crate) fn lose_name<D: Device>(
+    alloc: Global,
+    run: &mut Running<D>,
+    node: u64,
+    size: u64,
+    open_now: bool,
+) -> Result<(), DeviceFault>
+    requires age { age_of run.old < 2 ^ 63 - 2 ^ 39 }
+    requires size { size ≤ 1048576 }
+    ensures loses { OnOk result (Loses run.old.run node size open_now run.new.run) }
+    ensures err { IfErr result (λ fault. Fails run.old.run (1 + chunks_lost size open_now) fault run.new.run.machine) }
+    ensures age { Aged run.old run.new 0 }
+{
+    if open_now {
+        return put_orphan(alloc, run, node);
+    }
+    drop_node(alloc, run, node, size)
+}
+
+/// Takes an entry away, and its node goes or stays without a name.
+fn unname<D: Device>(
+    alloc: Global,
+    run: &mut Running<D>,
+    leaf: &Leaf,
+    open_now: bool,
+) -> Result<(), DeviceFault>
+    requires age { age_of run.old < 2 ^ 63 - 2 ^ 39 }
+    requires named { IsNamed leaf.now.name }
+    requires size { leaf.now.size ≤ 1048576 }
+    ensures unnames { OnOk result (Unnames run.old.run leaf.now open_now run.new.run) }
+    ensures err { IfErr result (λ fault. Fails run.old.run (2 + chunks_gone leaf.now open_now) fault run.new.run.machine) }
+    ensures age { Aged run.old run.new 0 }
+{
+    remove(alloc, run, leaf.parent, leaf.name.bytes())?;
+    lose_name(alloc, run, leaf.node, leaf.size, open_now)
+}
+
+/// The same, as one change.
+fn take_name<D: Device>(
+    alloc: Global,
+    run: &mut Running<D>,
+    leaf: &Leaf,
+    open_now: bool,
+) -> Result<(), DeviceFault>
+    requires age { age_of run.old < 2 ^ 63 - 2 ^ 39 }
+    requires named { IsNamed leaf.now.name }
+    requires size { leaf.now.size ≤ 1048576 }
+    ensures unlinks { OnOk result (Unlinks run.old.run leaf.now open_now run.new.run) }
+    ensures err { IfErr result (λ fault. UnlinkFault run.old.run leaf.now open_now fault run.new.run.machine) }
+    ensures age { Aged run.old run.new (2 ^ 16) }
+{
+    unname(alloc, run, leaf, open_now)?;
+    let chunks = chunks_lost(leaf.size, open_now);
+    let next = run.head().next;
+    run.change(alloc, 4 + chunks as u32, next)?;
+    Ok(())
+}
+
+/// The length of a node that is to go.
+fn size_to_go<D: Device>(alloc: Global, run: &mut Running<D>, node: u64) -> Result<u64, CoreFault>
+    requires { age_of run.old < 2 ^ 63 - 2 ^ 39 }
+    ensures gives { Gives (λ n. n) result (release_at (inode_in (seen run.old.run) node)) }
+    ensures small { IfOk result (λ n. n ≤ 1048576) }
+    ensures leaves { Leaves run.old.run result run.new.run }
+    ensures age { Aged run.old run.new 0 }
+{
+    match inode(alloc, run, node)? {
+        None => Err(CoreFault::No(Errno::ENOENT)),
+        Some(it) => {
+            if it.length > GREATEST_LENGTH {
+                return Err(CoreFault::No(Errno::EFBIG));
+            }
+            Ok(it.length)
+        }
+    }
+}
+
+/// Removes a node without a name, as one change.
+fn remove_node<D: Device>(
+    alloc: Global,
+    run: &mut Running<D>,
+    node: u64,
+    size: u64,
+) -> Result<(), DeviceFault>
+    requires age { age_of run.old < 2 ^ 63 - 2 ^ 39 }
+    requires size { size ≤ 1048576 }
+    ensures releases { OnOk result (Releases run.old.run node size run.new.run) }
+    ensures err { IfErr result (λ fault. ReleaseFault run.old.run node size fault run.new.run.machine) }
+    ensures age { Aged run.old run.new (2 ^ 16) }
+{
+    drop_node(alloc, run, node, size)?;
+    delete_orphan(alloc, run, node)?;
+    let next = run.head().next;
+    run.change(alloc, 4 + chunks_for(size) as u32, next)?;
+    Ok(())
+}

@@ -1,0 +1,138 @@
+// A file's new length.
+ghost use Rattle.std.specs.Prelude.{◌≡◌, ◌+◌, ◌<◌, ◌≤◌, ◌-◌, ◌^◌, IsTrue, OnOk, IfOk, IfErr};
+ghost use Rattle.kfs_tx.specs.Run.{age_of, Aged, seen};
+ghost use Rattle.kfs_file.specs.Contents as contents;
+ghost use Rattle.kfs_core.specs.Gives.{Gives, Leaves};
+ghost use Rattle.kfs_core.specs.Resizing.{PutsLength, ResizeDoes, ResizeFault, Resizes, keys_cut, resize_in, resized_fits};
+
+use crate::dropping::GREATEST_LENGTH;
+use crate::files::length_of;
+use crate::making::put_inode;
+use crate::room::{Space, chunks_for};
+use crate::{CoreFault, Kfs};
+use kfs_file::set_length;
+use kfs_objects::Inode;
+use kfs_path::Errno;
+use kfs_tx::Running;
+use kv_device::{Device, DeviceFault};
+use std::alloc::Global;
+
+impl<D: Device> Kfs<D> {
+    /// Gives a file another length: it is cut short, or zeros follow.
+    pub fn set_length(&mut self, alloc: Global, node: u64, length: u64) -> Result<(), CoreFault>
+        requires { age_of self.old.running < 2 ^ 63 - 2 ^ 39 }
+        ensures does { ResizeDoes self.old node length result self.new }
+        ensures age { Aged self.old.running self.new.running (2 ^ 17) }
+    {
+        let space = self.space();
+        let size = resizable(alloc, &mut self.run, &space, node, length)?;
+        if size == length {
+            return Ok(());
+        }
+        resize(alloc, &mut self.run, node, size, length)?;
+        let old = chunks_for(size);
+        let new = chunks_for(length);
+        self.charge = (self.charge + new).saturating_sub(old);
+        self.chunks = (self.chunks + new).saturating_sub(old);
+        Ok(())
+    }
+}
+
+/// Whether a length in place of another leaves room.
+fn resized_fits(space: &Space, old: u64, new: u64) -> bool
+    requires old { old ≤ 1048576 }
+    requires new { new ≤ 1048576 }
+    requires charge { space.now.charge ≤ space.now.keys }
+    requires chunks { space.now.chunks ≤ space.now.pages }
+    ensures { result ≡ resized_fits space.now old new }
+{
+    let less = chunks_for(old);
+    let more = chunks_for(new);
+    (space.charge + more).saturating_sub(less) <= space.keys as u64
+        && (space.chunks + more).saturating_sub(less) <= space.pages as u64
+}
+
+/// The length of a file, where another may take its place.
+fn resizable<D: Device>(
+    alloc: Global,
+    run: &mut Running<D>,
+    space: &Space,
+    node: u64,
+    length: u64,
+) -> Result<u64, CoreFault>
+    requires age { age_of run.old < 2 ^ 63 - 2 ^ 39 }
+    requires charge { space.now.charge ≤ space.now.keys }
+    requires chunks { space.now.chunks ≤ space.now.pages }
+    ensures gives { Gives (λ n. n) result (resize_in (seen run.old.run) space.now node length) }
+    ensures small { IfOk result (λ n. n ≤ 1048576) }
+    ensures short { OnOk result (length ≤ 1048576) }
+    ensures fits { IfOk result (λ n. IsTrue (resized_fits space.now n length)) }
+    ensures leaves { Leaves run.old.run result run.new.run }
+    ensures age { Aged run.old run.new 0 }
+{
+    let size = length_of(alloc, run, node)?;
+    if length > GREATEST_LENGTH {
+        return Err(CoreFault::No(Errno::EFBIG));
+    }
+    if !resized_fits(space, size, length) {
+        return Err(CoreFault::No(Errno::ENOSPC));
+    }
+    Ok(size)
+}
+
+/// The keys of chunks that change, from a length to another.
+fn keys_cut(old: u64, new: u64) -> u64
+    requires old { old ≤ 1048576 }
+    ensures gives { result ≡ keys_cut old new }
+    ensures few { result ≤ 256 }
+{
+    if new < old {
+        (old + 4095) / 4096 - new / 4096
+    } else {
+        0
+    }
+}
+
+/// Gives the chunks of a file of so many bytes another length.
+fn put_length<D: Device>(
+    alloc: Global,
+    run: &mut Running<D>,
+    node: u64,
+    size: u64,
+    length: u64,
+) -> Result<(), DeviceFault>
+    requires age { age_of run.old < 2 ^ 63 - 2 ^ 39 }
+    requires size { size ≤ 1048576 }
+    requires length { length ≤ 1048576 }
+    ensures puts { OnOk result (PutsLength run.old.run node size length run.new.run) }
+    ensures err { IfErr result (λ fault. contents.Fails run.old.run (keys_cut size length) fault run.new.run.machine) }
+    ensures age { Aged run.old run.new (2 ^ 16) }
+{
+    if length < size {
+        return set_length(alloc, run, node, size, length);
+    }
+    Ok(())
+}
+
+/// The same with the inode, as one change.
+fn resize<D: Device>(
+    alloc: Global,
+    run: &mut Running<D>,
+    node: u64,
+    size: u64,
+    length: u64,
+) -> Result<(), DeviceFault>
+    requires age { age_of run.old < 2 ^ 63 - 2 ^ 39 }
+    requires size { size ≤ 1048576 }
+    requires length { length ≤ 1048576 }
+    ensures resizes { OnOk result (Resizes run.old.run node size length run.new.run) }
+    ensures err { IfErr result (λ fault. ResizeFault run.old.run node size length fault run.new.run.machine) }
+    ensures age { Aged run.old run.new (2 ^ 17) }
+{
+    put_length(alloc, run, node, size, length)?;
+    put_inode(alloc, run, node, Inode { kind: 2, length })?;
+    let cut = keys_cut(size, length);
+    let next = run.head().next;
+    run.change(alloc, 2 + cut as u32, next)?;
+    Ok(())
+}
