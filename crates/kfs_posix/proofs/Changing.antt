@@ -1,18 +1,20 @@
 -- One change, whichever call makes it: what the session shows after it, and where it fails.
+use Rattle.kfs_core.proofs.Cleared.{kept_all}
 use Rattle.std.proofs.Common.{◌≡◌, ℕ, ◌<◌, ◌≤◌, ◌+◌, ◌^◌, ◌||◌, true, false, cond, Bool, refl, sym, ◌∙◌, ap, subst, arith, Some, nat_le}
 use Rattle.std.specs.FinMap as objects
 use Rattle.std.proofs.lemmas.Bool.Decides.{nat_tests}
 use Rattle.kfs_objects.specs.Keys.{super_key}
 use Rattle.kfs_objects.specs.Records.{super_value}
-use Rattle.kfs_model.specs.Tree.{Tree, charge, has_room, IsTree}
+use Rattle.kfs_model.specs.Tree.{Tree, charge, chunks, has_room, IsTree}
 use Rattle.kfs_model.specs.Step.{World}
 use Rattle.kfs_model.specs.Life.{Live, tree_at, with_tree, live_with}
 use Rattle.kfs_shows.specs.Shows.{Shows, ShowsTree}
-use Rattle.kfs_shows.specs.Named.{AllNamed}
 use Rattle.kfs_shows.proofs.Fresh.{with_super}
 use Rattle.kfs_tx.specs.Run.{Run, IsReady, SameBounds, seen, changed_keys, committed, counted, one_change, is_full}
 use Rattle.kfs_tx.proofs.Seeing.{ready_put, seen_put, keys_put, ready_committed, seen_committed, keys_committed}
 use Rattle.kfs_posix.specs.Book.{Book, limits_of}
+use Rattle.kfs_posix.specs.Opens.{Opens, desk_of}
+use Rattle.kfs_posix.specs.Holding.{Holds}
 use Rattle.kfs_posix.specs.Showing.{ShowsLive, IsSaved}
 use Rattle.kfs_posix.proofs.Past.{older, newest}
 
@@ -23,7 +25,6 @@ pub record IsPut (b : Book) (r : Run) (t : Tree) (n next : ℕ) : Type 0 where
   pub shows : ShowsTree (seen r) t
   pub low : t.next < 2 ^ 63
   pub few_changes : r.changes + 1 < 2 ^ 63
-  pub whole : AllNamed t
   pub next_is : next ≡ t.next
   pub changes : r.changes ≡ b.run.changes
   pub since : r.since ≡ b.run.since
@@ -37,9 +38,9 @@ or_false : (a b : Bool) → (a || b) ≡ false → (a ≡ false) × (b ≡ false
 or_false true b e = absurd (cc)
 or_false false b e = (refl, e)
 
-module _ (b : Book) (live : Live) (sh : ShowsLive b live) (r : Run) (t : Tree) (n next charged : ℕ) (put : IsPut b r t n next) (charge_is : charged ≡ charge t) where
+module _ (b : Book) (live : Live) (sh : ShowsLive b live) (r : Run) (t : Tree) (n next charged chunked : ℕ) (put : IsPut b r t n next) (charge_is : charged ≡ charge t) (chunks_is : chunked ≡ chunks t) (files : Opens) (holds : Holds files t) where
   abbrev world : World
-  world = record { tree = t; desk = live.world.desk }
+  world = record { tree = t; desk = desk_of files }
 
   abbrev done : Run
   done = counted r n next
@@ -55,24 +56,24 @@ module _ (b : Book) (live : Live) (sh : ShowsLive b live) (r : Run) (t : Tree) (
       (with_super (seen r) t (live.past.count + 1) put.shows)
 
   pub to_save : IsSaved (limits_of b) (seen done) t (live.past.count + 1)
-  to_save = record { tree = put.tree; shows = sees; next = put.low; count = (let e = count_is in let h = put.few_changes in omega arith); room = put.room; whole = put.whole }
+  to_save = record { tree = put.tree; kept = t; is_kept = kept_all t put.tree; kept_tree = put.tree; shows = sees; next = put.low; count = (let e = count_is in let h = put.few_changes in omega arith); room = put.room }
 
   few_keys : changed_keys done ≤ changed_keys r + 1
   few_keys = keys_put r super_key (super_value (r.changes + 1) next) put.ready
 
-  between : is_full (r.since + 1) (r.weight + n) ≡ false → ShowsLive (record b { run = done; charge = charged }) (live_with live world (Some n) false)
+  between : is_full (r.since + 1) (r.weight + n) ≡ false → ShowsLive (record b { run = done; charge = charged; chunks = chunked; files = files }) (live_with live world (Some n) false)
   between e = record {
     up = sh.up;
     ready = ready;
     tree = put.tree;
     low = put.low;
     few_changes = let e = count_is in let h = put.few_changes in omega arith;
-    whole = put.whole;
     sees = sees;
     saved = subst (λ m. IsSaved (limits_of b) m (tree_at (with_tree live.past t) live.mark) live.mark) (sym put.stable) (subst (λ u. IsSaved (limits_of b) b.run.machine.stable u live.mark) (sym (older live.past t live.mark sh.behind)) sh.saved);
     newest = newest live.past t;
     behind = let h = sh.behind in omega arith;
-    desk = sh.desk;
+    desk = refl;
+    holds = holds;
     count = count_is;
     next = put.next_is;
     changes = ap (λ k. k + 1) (put.since ∙ sh.changes);
@@ -82,22 +83,23 @@ module _ (b : Book) (live : Live) (sh : ShowsLive b live) (r : Run) (t : Tree) (
     keys = sh.keys ∙ sym put.bounds.room_keys;
     pages = sh.pages ∙ sym put.bounds.room_pages;
     charged = charge_is;
+    chunked = chunks_is;
     room = put.room;
   }
 
-  at_boundary : ShowsLive (record b { run = committed done; charge = charged }) (live_with live world (Some n) true)
+  at_boundary : ShowsLive (record b { run = committed done; charge = charged; chunks = chunked; files = files }) (live_with live world (Some n) true)
   at_boundary = record {
     up = sh.up;
     ready = ready_committed done ready;
     tree = put.tree;
     low = put.low;
     few_changes = let e = count_is in let h = put.few_changes in omega arith;
-    whole = put.whole;
     sees = subst (λ m. Shows m t (live.past.count + 1)) (sym (seen_committed done ready)) sees;
     saved = subst (λ u. IsSaved (limits_of b) (seen done) u (live.past.count + 1)) (sym (newest live.past t)) to_save;
     newest = newest live.past t;
     behind = omega arith;
-    desk = sh.desk;
+    desk = refl;
+    holds = holds;
     count = count_is;
     next = put.next_is;
     changes = refl;
@@ -107,12 +109,13 @@ module _ (b : Book) (live : Live) (sh : ShowsLive b live) (r : Run) (t : Tree) (
     keys = sh.keys ∙ sym put.bounds.room_keys;
     pages = sh.pages ∙ sym put.bounds.room_pages;
     charged = charge_is;
+    chunked = chunks_is;
     room = put.room;
   }
 
-  pub change_shown : ShowsLive (record b { run = one_change r n next; charge = charged }) (live_with live world (Some n) (is_full (b.run.since + 1) (b.run.weight + n)))
-  change_shown = subst (λ f. ShowsLive (record b { run = one_change r n next; charge = charged }) (live_with live world (Some n) f)) (λ i. is_full (put.since i + 1) (put.weight i + n)) (by (is_full (r.since + 1) (r.weight + n)) refl)
+  pub change_shown : ShowsLive (record b { run = one_change r n next; charge = charged; chunks = chunked; files = files }) (live_with live world (Some n) (is_full (b.run.since + 1) (b.run.weight + n)))
+  change_shown = subst (λ f. ShowsLive (record b { run = one_change r n next; charge = charged; chunks = chunked; files = files }) (live_with live world (Some n) f)) (λ i. is_full (put.since i + 1) (put.weight i + n)) (by (is_full (r.since + 1) (r.weight + n)) refl)
     where
-      by : (f : Bool) → is_full (r.since + 1) (r.weight + n) ≡ f → ShowsLive (record b { run = cond f (committed done) done; charge = charged }) (live_with live world (Some n) f)
+      by : (f : Bool) → is_full (r.since + 1) (r.weight + n) ≡ f → ShowsLive (record b { run = cond f (committed done) done; charge = charged; chunks = chunked; files = files }) (live_with live world (Some n) f)
       by true e = at_boundary
       by false e = between e

@@ -1,5 +1,5 @@
 -- What a session's answers to faults say of counts, causes and lives.
-use Rattle.std.proofs.Common.{◌≡◌, ℕ, ◌+◌, ◌⊎◌, inl, inr, true, false, cond, Bool, refl, sym, ◌∙◌, ap, subst, List, Option, Some, None, Result, Ok, Err}
+use Rattle.std.proofs.Common.{◌≡◌, ℕ, ◌+◌, inl, inr, true, false, cond, Bool, refl, sym, ◌∙◌, ap, subst, List, Option, Some, None, Result, Err}
 use Rattle.kv_device.specs.declared.fault.DeviceFault.{DeviceFault}
 use Rattle.kv_device.specs.declared.fault.DeviceFault.TheVariants.{NoTx, Busy, TxFull, Full, BadSize, Off, Failed, Memory}
 use Rattle.kv_device.specs.Machine.{Machine}
@@ -8,26 +8,27 @@ use Rattle.kfs_path.specs.declared.call.Reply.{Reply}
 use Rattle.kfs_path.specs.declared.call.Reply.TheVariants as replies
 use Rattle.kfs_path.specs.declared.call.Errno.{Errno}
 use Rattle.kfs_path.specs.declared.call.Cause.{Cause}
-use Rattle.kfs_path.specs.declared.call.Cause.TheVariants.{Cut, Eio, NoMem}
+use Rattle.kfs_path.specs.declared.call.Cause.TheVariants.{Eio, NoMem}
 use Rattle.kfs_model.specs.declared.Line.TheVariants as lines
 use Rattle.kfs_model.specs.declared.Answer.TheVariants as answers
 use Rattle.kfs_model.specs.Step.{World}
 use Rattle.kfs_model.specs.Life.{can_fail}
-use Rattle.kfs_tx.specs.Run.{Run, Caused, CausedAlone, GetFault, CommitFault, ChangeFault, committed, one_change, is_full, counted}
+use Rattle.kfs_tx.specs.Run.{Run, Caused, CausedAlone, committed, is_full, counted}
 use Rattle.kfs_core.specs.declared.fault.CoreFault.{CoreFault}
 use Rattle.kfs_core.specs.declared.fault.CoreFault.TheVariants.{No, Device}
 use Rattle.kfs_core.specs.Core.{KfsState, run_in, Stays}
 use Rattle.kfs_core.specs.Flat.{Where}
 use Rattle.kfs_core.specs.Gives.{Fails, LeavesAtFault, CommitFails}
-use Rattle.kfs_core.specs.Making.{MakeFault, MkdirFails, made, with_entry, parent_of}
-use Rattle.kfs_posix.specs.Book.{Book, SessionState, state_of, book_of, limits_of, cause_of}
+use Rattle.kfs_core.specs.Making.{AddFault, AddFails, added, with_entry, parent_of}
+use Rattle.kfs_posix.specs.Opens.{Opens}
+use Rattle.kfs_posix.specs.Book.{Book, SessionState, state_of, book_of, cause_of}
 use Rattle.kfs_posix.specs.Answering.{Counts, KeepsCause, refusal, down_after}
 use Rattle.kfs_posix.specs.Showing.{GoesOn}
-use Rattle.kfs_posix.proofs.Calls.{read_falls, sync_falls}
+use Rattle.kfs_posix.proofs.Calls.{read_falls}
 
 -- ---- counts
 
-caused_counts : (m : Machine) (fault : DeviceFault) (new : Machine) → m.up ≡ true → Caused m fault new → Counts m (replies.Down (cause_of fault)) new
+pub caused_counts : (m : Machine) (fault : DeviceFault) (new : Machine) → m.up ≡ true → Caused m fault new → Counts m (replies.Down (cause_of fault)) new
 caused_counts m NoTx new up h = absurd h
 caused_counts m Busy new up h = absurd h
 caused_counts m TxFull new up h = h
@@ -38,7 +39,7 @@ caused_counts m Off new up (inr h) = h
 caused_counts m Failed new up h = h
 caused_counts m Memory new up h = h
 
-alone_caused : (m : Machine) (fault : DeviceFault) (new : Machine) → CausedAlone m fault new → Caused m fault new
+pub alone_caused : (m : Machine) (fault : DeviceFault) (new : Machine) → CausedAlone m fault new → Caused m fault new
 alone_caused m NoTx new h = absurd h
 alone_caused m Busy new h = absurd h
 alone_caused m TxFull new h = absurd h
@@ -60,16 +61,16 @@ pub commit_counts : (old new : Run) (fault : CoreFault) → old.machine.up ≡ t
 commit_counts old new (No e) up h = absurd h
 commit_counts old new (Device f) up h = caused_counts old.machine f new.machine up h.1
 
-make_caused : (r : Run) (parent : ℕ) (name : List ℕ) (fault : DeviceFault) (new : Machine) → MakeFault r parent name fault new → Caused r.machine fault new
-make_caused r parent name fault new (inl h) = h.1
-make_caused r parent name fault new (inr (inl h)) = h.1
-make_caused r parent name fault new (inr (inr (inl h))) = h.1
-make_caused r parent name fault new (inr (inr (inr h))) = h.1.1
+pub make_caused : (r : Run) (kind parent : ℕ) (name : List ℕ) (fault : DeviceFault) (new : Machine) → AddFault r kind parent name fault new → Caused r.machine fault new
+make_caused r kind parent name fault new (inl h) = h.1
+make_caused r kind parent name fault new (inr (inl h)) = h.1
+make_caused r kind parent name fault new (inr (inr (inl h))) = h.1
+make_caused r kind parent name fault new (inr (inr (inr h))) = h.1.1
 
-pub mkdir_counts : (old new : Run) (judged : Result Where Errno) (fault : CoreFault) → old.machine.up ≡ true → MkdirFails old judged fault new → Counts old.machine (refusal fault) new.machine
-mkdir_counts old new judged (No e) up h = same_counts old.machine new.machine (ap (λ (r : Run). r.machine) h.1)
-mkdir_counts old new judged (Device f) up (inl h) = caused_counts old.machine f new.machine up (alone_caused old.machine f new.machine h.1)
-mkdir_counts old new judged (Device f) up (inr h) = caused_counts old.machine f new.machine up (make_caused old (parent_of h.0) h.0.name f new.machine h.2)
+pub add_counts : (old new : Run) (kind : ℕ) (judged : Result Where Errno) (fault : CoreFault) → old.machine.up ≡ true → AddFails old kind judged fault new → Counts old.machine (refusal fault) new.machine
+add_counts old new kind judged (No e) up h = same_counts old.machine new.machine (ap (λ (r : Run). r.machine) h.1)
+add_counts old new kind judged (Device f) up (inl h) = caused_counts old.machine f new.machine up (alone_caused old.machine f new.machine h.1)
+add_counts old new kind judged (Device f) up (inr h) = caused_counts old.machine f new.machine up (make_caused old kind (parent_of h.0) h.0.name f new.machine h.2)
 
 -- ---- causes
 
@@ -87,9 +88,9 @@ pub commit_awake : (old new : Run) (d : Option Cause) (fault : CoreFault) → Co
 commit_awake old new d (No e) h none = absurd h
 commit_awake old new d (Device f) h none = absurd (cc)
 
-pub mkdir_awake : (old new : Run) (judged : Result Where Errno) (d : Option Cause) (fault : CoreFault) → old.machine.up ≡ true → MkdirFails old judged fault new → down_after d fault ≡ None → new.machine.up ≡ true
-mkdir_awake old new judged d (No e) up h none = ap (λ (r : Run). r.machine.up) h.1 ∙ up
-mkdir_awake old new judged d (Device f) up h none = absurd (cc)
+pub add_awake : (old new : Run) (kind : ℕ) (judged : Result Where Errno) (d : Option Cause) (fault : CoreFault) → old.machine.up ≡ true → AddFails old kind judged fault new → down_after d fault ≡ None → new.machine.up ≡ true
+add_awake old new kind judged d (No e) up h none = ap (λ (r : Run). r.machine.up) h.1 ∙ up
+add_awake old new kind judged d (Device f) up h none = absurd (cc)
 
 -- what a boundary leaves of a run's device
 pub record SameMachine (old new : Machine) : Type 0 where
@@ -97,8 +98,8 @@ pub record SameMachine (old new : Machine) : Type 0 where
   pub cuts : new.cuts ≡ old.cuts
   pub faults : new.faults ≡ old.faults
 
-pub made_same : (r : Run) (parent : ℕ) (name : List ℕ) → SameMachine r.machine (made r parent name).machine
-made_same r parent name = by (counted (with_entry r parent name) 4 (r.next + 1)) (is_full (r.since + 1) (r.weight + 4)) refl refl refl
+pub added_same : (r : Run) (kind parent : ℕ) (name : List ℕ) → SameMachine r.machine (added r kind parent name).machine
+added_same r kind parent name = by (counted (with_entry r kind parent name) 4 (r.next + 1)) (is_full (r.since + 1) (r.weight + 4)) refl refl refl
   where
     by : (s : Run) (b : Bool) → s.machine.up ≡ r.machine.up → s.machine.cuts ≡ r.machine.cuts → s.machine.faults ≡ r.machine.faults → SameMachine r.machine (cond b (committed s) s).machine
     by s true a b c = record { up = a; cuts = b; faults = c }
@@ -106,12 +107,12 @@ made_same r parent name = by (counted (with_entry r parent name) 4 (r.next + 1))
 
 -- ---- lives
 
-book_is : (old : SessionState) (kfs : KfsState) (d : Option Cause) → state_of kfs d ≡ old → book_of kfs d ≡ old.book
-book_is old kfs d e = ap (λ (s : SessionState). s.book) e
+book_is : (old : SessionState) (kfs : KfsState) (o : Opens) (d : Option Cause) → state_of kfs o d ≡ old → book_of kfs o d ≡ old.book
+book_is old kfs o d e = ap (λ (s : SessionState). s.book) e
 
 -- the running transaction alone may have changed
-pub stays_book : (k0 k1 : KfsState) (d : Option Cause) → Stays k0 k1 → book_of k1 d ≡ record (book_of k0 d) { run = run_in k1 }
-stays_book k0 k1 d e = ap (λ (k : KfsState). book_of k d) e
+pub stays_book : (k0 k1 : KfsState) (o : Opens) (d : Option Cause) → Stays k0 k1 → book_of k1 o d ≡ record (book_of k0 o d) { run = run_in k1 }
+stays_book k0 k1 o d e = ap (λ (k : KfsState). book_of k o d) e
 
 -- answered by an error or the call's fault, where it only reads
 pub read_refused : (old : Book) (call : Call) (def : Result Reply Errno) (fault : CoreFault) (run : Run) → old.down ≡ None → Fails fault def → LeavesAtFault old.run fault run
@@ -122,14 +123,14 @@ read_refused old call def (Device f) run up fails leaves eio nomem goes = read_f
 
 -- ---- the same of a session, by what it was made of
 
-pub counts_by : (old : SessionState) (k0 : KfsState) (d : Option Cause) (reply : Reply) (fault : CoreFault) (new : Machine) → state_of k0 d ≡ old → reply ≡ refusal fault → Counts (run_in k0).machine (refusal fault) new → Counts old.book.run.machine reply new
-counts_by old k0 d reply fault new is reply_is h = subst (λ (s : SessionState). Counts s.book.run.machine reply new) is (subst (λ r. Counts (run_in k0).machine r new) (sym reply_is) h)
+pub counts_by : (old : SessionState) (k0 : KfsState) (o : Opens) (d : Option Cause) (reply : Reply) (fault : CoreFault) (new : Machine) → state_of k0 o d ≡ old → reply ≡ refusal fault → Counts (run_in k0).machine (refusal fault) new → Counts old.book.run.machine reply new
+counts_by old k0 o d reply fault new is reply_is h = subst (λ (s : SessionState). Counts s.book.run.machine reply new) is (subst (λ r. Counts (run_in k0).machine r new) (sym reply_is) h)
 
-pub keeps_by : (old : SessionState) (k0 k1 : KfsState) (d d1 : Option Cause) (reply : Reply) (fault : CoreFault) → state_of k0 d ≡ old → d ≡ None → reply ≡ refusal fault → d1 ≡ down_after d fault → KeepsCause old.book reply (book_of k1 d1)
-keeps_by old k0 k1 d d1 reply fault is up reply_is down = subst (λ (s : SessionState). KeepsCause s.book reply (book_of k1 d1)) is (subst (λ r. KeepsCause (book_of k0 d) r (book_of k1 d1)) (sym reply_is) (refused_keeps (book_of k0 d) (book_of k1 d1) fault up down))
+pub keeps_by : (old : SessionState) (k0 k1 : KfsState) (o : Opens) (d d1 : Option Cause) (reply : Reply) (fault : CoreFault) → state_of k0 o d ≡ old → d ≡ None → reply ≡ refusal fault → d1 ≡ down_after d fault → KeepsCause old.book reply (book_of k1 o d1)
+keeps_by old k0 k1 o d d1 reply fault is up reply_is down = subst (λ (s : SessionState). KeepsCause s.book reply (book_of k1 o d1)) is (subst (λ r. KeepsCause (book_of k0 o d) r (book_of k1 o d1)) (sym reply_is) (refused_keeps (book_of k0 o d) (book_of k1 o d1) fault up down))
 
-pub none_kept : (old : SessionState) (k0 : KfsState) (d : Option Cause) → state_of k0 d ≡ old → d ≡ None → (old.book.down ≡ None) × (d ≡ None)
-none_kept old k0 d is up = (sym (ap (λ (s : SessionState). s.book.down) is) ∙ up, up)
+pub none_kept : (old : SessionState) (k0 : KfsState) (o : Opens) (d : Option Cause) → state_of k0 o d ≡ old → d ≡ None → (old.book.down ≡ None) × (d ≡ None)
+none_kept old k0 o d is up = (sym (ap (λ (s : SessionState). s.book.down) is) ∙ up, up)
 
-pub counts_same : (old : SessionState) (k0 : KfsState) (d : Option Cause) (new : Machine) → state_of k0 d ≡ old → new.cuts ≡ (run_in k0).machine.cuts → new.faults ≡ (run_in k0).machine.faults → (new.cuts ≡ old.book.run.machine.cuts) × (new.faults ≡ old.book.run.machine.faults)
-counts_same old k0 d new is cuts faults = (cuts ∙ ap (λ (s : SessionState). s.book.run.machine.cuts) is, faults ∙ ap (λ (s : SessionState). s.book.run.machine.faults) is)
+pub counts_same : (old : SessionState) (k0 : KfsState) (o : Opens) (d : Option Cause) (new : Machine) → state_of k0 o d ≡ old → new.cuts ≡ (run_in k0).machine.cuts → new.faults ≡ (run_in k0).machine.faults → (new.cuts ≡ old.book.run.machine.cuts) × (new.faults ≡ old.book.run.machine.faults)
+counts_same old k0 o d new is cuts faults = (cuts ∙ ap (λ (s : SessionState). s.book.run.machine.cuts) is, faults ∙ ap (λ (s : SessionState). s.book.run.machine.faults) is)

@@ -1,6 +1,7 @@
 -- Answered calls, and calls in which the session goes down, as events of a life.
-use Rattle.std.proofs.Common.{◌≡◌, ℕ, ◌<◌, ◌≤◌, ◌+◌, ◌-◌, ◌^◌, ◌&&◌, ◌⊎◌, inl, inr, true, false, cond, Bool, refl, sym, ◌∙◌, ap, subst, arith, [], ◌∷◌, Option, Some, None, is_some}
+use Rattle.std.proofs.Common.{◌≡◌, ℕ, suc, List, ◌<◌, ◌≤◌, ◌+◌, ◌-◌, ◌^◌, ◌&&◌, ◌⊎◌, inl, inr, true, false, cond, Bool, refl, sym, ◌∙◌, ap, subst, arith, [], ◌∷◌, Option, Some, None, is_some}
 use Rattle.std.specs.Ordering.{nat_cmp}
+use Rattle.std.specs.Option.{option_map}
 use Rattle.std.specs.FinMap.{find}
 use Rattle.std.specs.Prelude.{IsTrue}
 use Rattle.kv_device.specs.declared.fault.DeviceFault.{DeviceFault}
@@ -20,7 +21,12 @@ use Rattle.kfs_model.specs.Change.{weight, commits, is_boundary}
 use Rattle.kfs_model.specs.Life.{State, Now, Up, Down, Live, Past, tree_at, past_after, live_with, live_after, fallen, with_now, disarmed, is_armed, can_fail, EventAt, IsFree}
 use Rattle.kfs_tx.specs.Run.{SameBounds, HasCause, Fallen, is_full}
 use Rattle.kfs_posix.specs.Book.{Book, limits_of, cause_of}
+use Rattle.kfs_posix.specs.declared.open_files.OpenFile.{OpenFile}
+use Rattle.kfs_posix.specs.Opens.{Opens, desk_of}
+use Rattle.kfs_posix.specs.Holding.{Holds}
 use Rattle.kfs_posix.specs.Showing.{IsSaved, ShowsLive, ShowsDown, ShowsNow, ShowsState, GoesOn, one_if}
+use Rattle.kfs_laws.proofs.Lookups.{number_apart}
+use Rattle.kfs_posix.proofs.Maps.{find-map}
 use Rattle.kfs_posix.proofs.Past.{older, newest}
 
 -- an up session shows an up state alone
@@ -45,16 +51,31 @@ down_goes old call down = record { each = λ s showing. by s showing s.now showi
     by s showing (Up live) sh = absurd (let e : true ≡ false = sym down ∙ ap (is_some {T = Cause}) sh.up in cc)
     by s showing (Down past may) sh = (s, (refl, refl), showing)
 
-free : (b : Book) (live : Live) → ShowsLive b live → IsFree live.world 0
-free b live sh = ap (λ (d : Desk). is_some (find nat_cmp 0 d.descriptions)) sh.desk
+-- a number above those of all descriptions
+abbrev over : {A : Type 0} → List (ℕ × A) → ℕ
+over [] = 0
+over (e ∷ es) = suc (e.0 + over es)
+
+find_over : {A : Type 0} (d : ℕ) (es : List (ℕ × A)) → over es ≤ d → find nat_cmp d es ≡ None
+find_over d [] le = refl
+find_over d (e ∷ es) le = ap (λ b. cond b (Some e.1) (find nat_cmp d es)) (number_apart d e.0 (omega arith)) ∙ find_over d es (omega arith)
+
+abbrev pub spare : Book → ℕ
+spare b = over b.files.files
+
+pub spare_free : (b : Book) → find nat_cmp (spare b) b.files.files ≡ None
+spare_free b = find_over (spare b) b.files.files (let e : spare b ≤ spare b = omega arith in e)
+
+free : (b : Book) (live : Live) (d : ℕ) → ShowsLive b live → find nat_cmp d b.files.files ≡ None → IsFree live.world d
+free b live d sh none = ap (λ (k : Desk). is_some (find nat_cmp d k.descriptions)) sh.desk ∙ ap is_some (find-map (λ (f : OpenFile). f.it) d b.files.files) ∙ ap (λ o. is_some (option_map (λ (f : OpenFile). f.it) o)) none
 
 -- answered: the live state that follows is shown
-pub answered : (old new : Book) (s : State) (live : Live) (call : Call) (reply : Reply) → ShowsState old s → ShowsLive old live → reply ≡ (step (limits_of old) 0 live.world call).reply
-    → ShowsLive new (live_after live call (step (limits_of old) 0 live.world call)) → new.run.machine.cuts ≡ old.run.machine.cuts → new.run.machine.faults ≡ old.run.machine.faults → SameBounds old.run.machine new.run.machine
+pub answered : (old new : Book) (s : State) (live : Live) (call : Call) (reply : Reply) (d : ℕ) → find nat_cmp d old.files.files ≡ None → ShowsState old s → ShowsLive old live → reply ≡ (step (limits_of old) d live.world call).reply
+    → ShowsLive new (live_after live call (step (limits_of old) d live.world call)) → new.run.machine.cuts ≡ old.run.machine.cuts → new.run.machine.faults ≡ old.run.machine.faults → SameBounds old.run.machine new.run.machine
     → Goes old s (Up live) call reply new
-answered old new s live call reply showing sh is shows cuts faults bounds = (
-  with_now s (Up (live_after live call (step (limits_of old) 0 live.world call))),
-  (0, free old live sh, inl (is, refl)),
+answered old new s live call reply d none showing sh is shows cuts faults bounds = (
+  with_now s (Up (live_after live call (step (limits_of old) d live.world call))),
+  (d, free old live d sh none, inl (is, refl)),
   record {
     now = shows;
     cuts = let h = showing.cuts in let b = bounds.most_cuts in omega arith;
@@ -68,28 +89,72 @@ answered old new s live call reply showing sh is shows cuts faults bounds = (
 
 -- a call that changes nothing
 pub idle_goes : (old : Book) (call : Call) (reply : Reply) → old.down ≡ None → ((w x : World) → weight w call (record { world = x; reply = reply }) ≡ None) → commits call reply ≡ false
-    → ((live : Live) → ShowsLive old live → step (limits_of old) 0 live.world call ≡ record { world = live.world; reply = reply }) → GoesOn old (lines.Call call) (answers.Reply reply) old
+    → ((live : Live) → ShowsLive old live → step (limits_of old) (spare old) live.world call ≡ record { world = live.world; reply = reply }) → GoesOn old (lines.Call call) (answers.Reply reply) old
 idle_goes old call reply up none quiet did = up_goes old old call reply up (λ s live showing sh.
     let after : After = record { world = live.world; reply = reply } in
     let is = did live sh in
-    let same : live_after live call (step (limits_of old) 0 live.world call) ≡ live =
+    let same : live_after live call (step (limits_of old) (spare old) live.world call) ≡ live =
     ap (live_after live call) is
     ∙ ap (λ (o : Option ℕ). live_with live live.world o (is_boundary live.since call reply o)) (none live.world live.world)
     ∙ ap (λ (f : Bool). live_with live live.world None f) quiet in
-    answered old old s live call reply showing sh (sym (ap (λ (a : After). a.reply) is)) (subst (ShowsLive old) (sym same) sh) refl refl (record { most_cuts = refl; most_faults = refl; room_keys = refl; room_pages = refl }))
+    answered old old s live call reply (spare old) (spare_free old) showing sh (sym (ap (λ (a : After). a.reply) is)) (subst (ShowsLive old) (sym same) sh) refl refl (record { most_cuts = refl; most_faults = refl; room_keys = refl; room_pages = refl }))
 
--- a change
+-- a change; d is the number of the description that it makes
+pub change_goes_at : (old new : Book) (call : Call) (reply : Reply) (n d : ℕ) → find nat_cmp d old.files.files ≡ None → old.down ≡ None
+    → new.run.machine.cuts ≡ old.run.machine.cuts → new.run.machine.faults ≡ old.run.machine.faults → SameBounds old.run.machine new.run.machine
+    → ((live : Live) → ShowsLive old live → (w : World) × (step (limits_of old) d live.world call ≡ record { world = w; reply = reply }) × (weight live.world call (record { world = w; reply = reply }) ≡ Some n) × ShowsLive new (live_with live w (Some n) (is_full (old.run.since + 1) (old.run.weight + n))))
+    → GoesOn old (lines.Call call) (answers.Reply reply) new
+change_goes_at old new call reply n d none up cuts faults bounds did = up_goes old new call reply up (λ s live showing sh.
+    let it = did live sh in
+    let same : live_after live call (step (limits_of old) d live.world call) ≡ live_with live it.0 (Some n) (is_full (old.run.since + 1) (old.run.weight + n)) =
+    ap (live_after live call) it.1
+    ∙ ap (λ (o : Option ℕ). live_with live it.0 o (is_boundary live.since call reply o)) it.2
+    ∙ (λ i. live_with live it.0 (Some n) (is_full (sym sh.changes i + 1) (sym sh.weight i + n))) in
+    answered old new s live call reply d none showing sh (sym (ap (λ (a : After). a.reply) it.1)) (subst (ShowsLive new) (sym same) it.3) cuts faults bounds)
+
 pub change_goes : (old new : Book) (call : Call) (reply : Reply) (n : ℕ) → old.down ≡ None → ((w x : World) → weight w call (record { world = x; reply = reply }) ≡ Some n)
     → new.run.machine.cuts ≡ old.run.machine.cuts → new.run.machine.faults ≡ old.run.machine.faults → SameBounds old.run.machine new.run.machine
-    → ((live : Live) → ShowsLive old live → (w : World) × (step (limits_of old) 0 live.world call ≡ record { world = w; reply = reply }) × ShowsLive new (live_with live w (Some n) (is_full (old.run.since + 1) (old.run.weight + n))))
+    → ((live : Live) → ShowsLive old live → (w : World) × (step (limits_of old) (spare old) live.world call ≡ record { world = w; reply = reply }) × ShowsLive new (live_with live w (Some n) (is_full (old.run.since + 1) (old.run.weight + n))))
     → GoesOn old (lines.Call call) (answers.Reply reply) new
-change_goes old new call reply n up weighs cuts faults bounds did = up_goes old new call reply up (λ s live showing sh.
+change_goes old new call reply n up weighs cuts faults bounds did =
+    change_goes_at old new call reply n (spare old) (spare_free old) up cuts faults bounds (λ live sh. let it = did live sh in (it.0, it.1, weighs live.world it.0, it.2))
+
+-- a call that changes nothing but the open files; d is the number of the description that it makes
+pub turn_goes : (old : Book) (files : Opens) (call : Call) (reply : Reply) (d : ℕ) → find nat_cmp d old.files.files ≡ None → old.down ≡ None → commits call reply ≡ false
+    → ((live : Live) → ShowsLive old live → (step (limits_of old) d live.world call ≡ record { world = record { tree = live.world.tree; desk = desk_of files }; reply = reply })
+    × (weight live.world call (record { world = record { tree = live.world.tree; desk = desk_of files }; reply = reply }) ≡ None) × Holds files live.world.tree)
+    → GoesOn old (lines.Call call) (answers.Reply reply) (record old { files = files })
+turn_goes old files call reply d none up quiet did = up_goes old (record old { files = files }) call reply up (λ s live showing sh.
     let it = did live sh in
-    let same : live_after live call (step (limits_of old) 0 live.world call) ≡ live_with live it.0 (Some n) (is_full (old.run.since + 1) (old.run.weight + n)) =
-    ap (live_after live call) it.1
-    ∙ ap (λ (o : Option ℕ). live_with live it.0 o (is_boundary live.since call reply o)) (weighs live.world it.0)
-    ∙ (λ i. live_with live it.0 (Some n) (is_full (sym sh.changes i + 1) (sym sh.weight i + n))) in
-    answered old new s live call reply showing sh (sym (ap (λ (a : After). a.reply) it.1)) (subst (ShowsLive new) (sym same) it.2) cuts faults bounds)
+    let w : World = record { tree = live.world.tree; desk = desk_of files } in
+    let same : live_after live call (step (limits_of old) d live.world call) ≡ record live { world = w } =
+    ap (live_after live call) it.0
+    ∙ ap (λ (o : Option ℕ). live_with live w o (is_boundary live.since call reply o)) it.1
+    ∙ ap (λ (f : Bool). live_with live w None f) quiet in
+    answered old (record old { files = files }) s live call reply d none showing sh (sym (ap (λ (a : After). a.reply) it.0)) (subst (ShowsLive (record old { files = files })) (sym same) (record {
+      up = sh.up;
+      ready = sh.ready;
+      tree = sh.tree;
+      low = sh.low;
+      few_changes = sh.few_changes;
+      sees = sh.sees;
+      saved = sh.saved;
+      newest = sh.newest;
+      behind = sh.behind;
+      desk = refl;
+      holds = it.2;
+      count = sh.count;
+      next = sh.next;
+      changes = sh.changes;
+      weight = sh.weight;
+      light = sh.light;
+      few = sh.few;
+      keys = sh.keys;
+      pages = sh.pages;
+      charged = sh.charged;
+      chunked = sh.chunked;
+      room = sh.room;
+    })) refl refl (record { most_cuts = refl; most_faults = refl; room_keys = refl; room_pages = refl }))
 
 -- ---- going down
 
@@ -156,7 +221,7 @@ both_true a b e f = λ i. (e i && f i)
 pub record Fell (old new : Book) (live : Live) (call : Call) (fault : DeviceFault) : Type 0 where
   pub stands : Objects
   pub fallen : Fallen old.run.machine fault stands new.run.machine
-  pub stood : Stood live call (step (limits_of old) 0 live.world call) (limits_of old) stands
+  pub stood : Stood live call (step (limits_of old) (spare old) live.world call) (limits_of old) stands
   pub can : (cause : Cause) → cause ≡ cause_of fault → can_fail live.world call cause ≡ true
 
 -- the session goes down in the call
@@ -164,11 +229,11 @@ pub fall_goes : (old new : Book) (call : Call) (fault : DeviceFault) → old.dow
     → ((live : Live) → ShowsLive old live → Fell old new live call fault)
     → GoesOn old (lines.Call call) (answers.Reply (replies.Down (cause_of fault))) new
 fall_goes old new call fault up down same fell = up_goes old new call (replies.Down (cause_of fault)) up (λ s live showing sh.
-    let after = step (limits_of old) 0 live.world call in
+    let after = step (limits_of old) (spare old) live.world call in
     let f = fell live sh in
     let shows : (cause : Cause) → new.down ≡ Some cause → ShowsNow new (fallen live call after) = λ cause e. stood_down new live call after cause f.stands e f.fallen.stable sh.behind (ap (λ (k : Limits). k.keys) same ∙ sh.keys ∙ sym f.fallen.bounds.room_keys) (ap (λ (k : Limits). k.pages) same ∙ sh.pages ∙ sym f.fallen.bounds.room_pages) (subst (λ k. Stood live call after k f.stands) (sym same) f.stood) in
     let it = by s showing live sh (fallen live call after) fault down f.can f.fallen.cause f.fallen.bounds shows in
-    (it.0, (0, free old live sh, inr it.1), it.2))
+    (it.0, (spare old, free old live (spare old) sh (spare_free old), inr it.1), it.2))
   where
     by : (s : State) → ShowsState old s → (live : Live) → ShowsLive old live → (to : Now) → (fault : DeviceFault) → new.down ≡ Some (cause_of fault) → ((cause : Cause) → cause ≡ cause_of fault → can_fail live.world call cause ≡ true) → HasCause old.run.machine fault new.run.machine → SameBounds old.run.machine new.run.machine
         → ((cause : Cause) → new.down ≡ Some cause → ShowsNow new to)

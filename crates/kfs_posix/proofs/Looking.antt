@@ -2,13 +2,13 @@
 use Rattle.std.proofs.Common.{◌≡◌, ℕ, ◌==◌, Bool, true, false, cond, refl, sym, ◌∙◌, ap, List, Option, Some, None, Result, Ok, Err, option_map}
 use Rattle.kv_device.specs.Objects.{Objects}
 use Rattle.kfs_path.specs.declared.call.Errno.{Errno}
-use Rattle.kfs_path.specs.declared.call.Errno.TheVariants.{ENOENT, ENOTDIR}
+use Rattle.kfs_path.specs.declared.call.Errno.TheVariants.{ENOTDIR}
 use Rattle.kfs_path.specs.declared.call.Reply.{Reply}
 use Rattle.kfs_path.specs.declared.call.Reply.TheVariants as replies
 use Rattle.kfs_model.specs.Ladder.{◌>>=◌}
 use Rattle.kfs_model.specs.Tree.{Name}
-use Rattle.kfs_model.specs.Step.{Route, syntax}
-use Rattle.kfs_core.specs.Flat.{Where, at_root, walk_in, found_in, inode_in, inode_at, node_in, lookup_in, children_at, names_of, told_in, listed_in, stat_in, list_in}
+use Rattle.kfs_model.specs.Step.{syntax}
+use Rattle.kfs_core.specs.Flat.{at_root, walk_in, found_in, inode_in, inode_at, node_in, lookup_in, children_at, names_of, told_in, listed_in, stat_in, list_in}
 use Rattle.kfs_posix.specs.Looking.{told_by, found_by, names_by}
 
 bind_same : {A B : Type 0} (r : Result A Errno) (f g : A → Result B Errno) → ((x : A) → f x ≡ g x) → (r >>= f) ≡ (r >>= g)

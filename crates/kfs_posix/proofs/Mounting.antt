@@ -1,26 +1,39 @@
 -- A mount goes on from what the device holds.
-use Rattle.std.proofs.Common.{◌≡◌, ℕ, ◌<◌, ◌≤◌, ◌-◌, ◌^◌, ◌&&◌, inl, true, false, Bool, refl, sym, ◌∙◌, ap, subst, arith, Some, None, nat_le, unwrap_or, option_and_then, slice_get}
+use Rattle.std.specs.List.{list_any}
+use Rattle.kfs_laws.proofs.Lookups.{same_numbers}
+use Rattle.kfs_shows.proofs.Sweeping.{nameless_test}
+use Rattle.kfs_core.proofs.Cleared.{kept_all, kept_both}
+use Rattle.std.proofs.Common.{◌≡◌, ℕ, ◌+◌, ◌<◌, ◌≤◌, ◌-◌, ◌^◌, ◌&&◌, true, false, cond, Bool, refl, sym, ◌∙◌, ap, subst, arith, lit<, List, [], ◌∷◌, length, filter, sum_by, Some, None, nat_le, unwrap_or, option_and_then, slice_get, inl, inr, ◌==◌}
+use Rattle.std.specs.Ordering.{nat_cmp}
 use Rattle.std.specs.FinMap as objects
+use Rattle.std.specs.FinMap.{nat_cmp-IsAntisymmetric}
+use Rattle.std.specs.FinMap.Entries.{find-where_key, is_sorted-where_key}
 use Rattle.std.proofs.lemmas.Bool.Decides.{nat_tests}
+use Rattle.std.proofs.lemmas.List.Sums.{sum_by-cons}
 use Rattle.std.proofs.lemmas.Option.{same_Some}
+use Rattle.kv_device.specs.Objects.{Objects}
 use Rattle.kv_device.specs.Machine.{Machine, none_open}
 use Rattle.kfs_objects.specs.Keys.{super_key}
 use Rattle.kfs_objects.specs.Records.{read_super}
 use Rattle.kfs_objects.proofs.RecordLaws.{read_super_value}
-use Rattle.kfs_model.specs.Tree.{Tree, Limits, charge, chunks, root_alone, named, IsTree}
+use Rattle.kfs_model.specs.declared.Node.{Node}
+use Rattle.kfs_model.specs.Tree.{Tree, Limits, charge, chunks, chunks_of, has_room, is_named, node_of, root_alone, named, IsTree, IsKept}
 use Rattle.kfs_model.specs.Life.{Past, tree_at, ended_at, up_at}
 use Rattle.kfs_shows.specs.Shows.{Shows}
-use Rattle.kfs_shows.proofs.AllNamed.{named_whole}
 use Rattle.kfs_shows.proofs.Counting.{few_objects}
-use Rattle.kfs_tx.specs.Run.{Run, started}
+use Rattle.kfs_tx.specs.Run.{Run}
 use Rattle.kfs_tx.proofs.Opening.{ready, sees_stable, none_changed}
+use Rattle.kfs_core.specs.Clearing.{Cleared, begun_over, Keeps}
 use Rattle.kfs_core.specs.Core.{KfsState, run_in}
-use Rattle.kfs_core.specs.Counted.{charge_in}
+use Rattle.kfs_core.specs.Counted.{charge_in, chunks_in}
+use Rattle.kfs_core.specs.Stands.{Stands}
 use Rattle.kfs_core.specs.Starting.{Started}
-use Rattle.kfs_core.proofs.Charged.{charge_same}
+use Rattle.kfs_core.proofs.Charged.{charge_same, chunks_same}
+use Rattle.kfs_posix.specs.Opens.{Opens, no_files}
 use Rattle.kfs_posix.specs.Book.{book_of}
 use Rattle.kfs_posix.specs.Showing.{ShowsLive, IsSaved}
-use Rattle.kfs_posix.specs.Mounting.{IsStored, Mounts, Keeps}
+use Rattle.kfs_posix.specs.Mounting.{limits_in, IsStored, Mounts}
+use Rattle.kfs_posix.proofs.Held.{nothing_holds}
 
 both_true : (a b : Bool) → (a && b) ≡ true → (a ≡ true) × (b ≡ true)
 both_true true b e = (refl, e)
@@ -29,54 +42,129 @@ both_true false b e = absurd (cc)
 there : (past : Past) (k : ℕ) → tree_at (ended_at past k) k ≡ named (tree_at past k)
 there past k = let zero' : k - k ≡ 0 = omega arith in ap (λ i. unwrap_or (slice_get (ended_at past k).trees i) root_alone) zero'
 
+module _ (p : ℕ × Node → Bool) where
+  fewer : (es : List (ℕ × Node)) → length (filter p es) ≤ length es
+  fewer [] = omega arith
+  fewer (e ∷ es) = by (p e) (fewer es)
+    where
+      by : (b : Bool) → length (filter p es) ≤ length es → length (cond b (e ∷ filter p es) (filter p es)) ≤ length (e ∷ es)
+      by true h = omega arith
+      by false h = omega arith
+
+  smaller : (es : List (ℕ × Node)) → sum_by (λ e. chunks_of e.1) (filter p es) ≤ sum_by (λ e. chunks_of e.1) es
+  smaller [] = omega arith
+  smaller (e ∷ es) = by (p e) (smaller es)
+    where
+      by : (b : Bool) → sum_by (λ e. chunks_of e.1) (filter p es) ≤ sum_by (λ e. chunks_of e.1) es → sum_by (λ e. chunks_of e.1) (cond b (e ∷ filter p es) (filter p es)) ≤ sum_by (λ e. chunks_of e.1) (e ∷ es)
+      by true h = let a = sum_by-cons (λ (e : ℕ × Node). chunks_of e.1) e (filter p es) in let b = sum_by-cons (λ (e : ℕ × Node). chunks_of e.1) e es in omega arith
+      by false h = let b = sum_by-cons (λ (e : ℕ × Node). chunks_of e.1) e es in omega arith
+
+-- with fewer nodes a tree takes no more room
+named_fits : (k : Limits) (t : Tree) → has_room k t ≡ true → has_room k (named t) ≡ true
+named_fits k t room =
+    let h = both_true (nat_le (charge t) k.keys) (nat_le (chunks t) k.pages) room in
+    let a = fewer (λ e. is_named t e.0) t.nodes in
+    let b = smaller (λ e. is_named t e.0) t.nodes in
+    let c : charge t ≤ k.keys = grind (arith, nat_tests, h.0) in
+    let d : chunks t ≤ k.pages = grind (arith, nat_tests, h.1) in
+    let e : nat_le (charge (named t)) k.keys ≡ true = grind (arith, nat_tests) in
+    let f : nat_le (chunks (named t)) k.pages ≡ true = grind (arith, nat_tests) in
+    λ i. (e i && f i)
+
+-- a tree without some of its nameless nodes loses the same nodes
+named_kept_same : (t kept : Tree) → IsTree t → IsKept t kept → named kept ≡ named t
+named_kept_same t kept tree is = λ i. record { names = is.names i; nodes = nodes i; next = is.next i }
+  where
+    test : (n : ℕ) → is_named kept n ≡ is_named t n
+    test n = ap (λ names. list_any (λ e. e.1 == n) names) is.names
+
+    look : (u : Tree) (n : ℕ) → node_of (named u) n ≡ cond (is_named u n) (node_of u n) None
+    look u n = find-where_key nat_cmp (is_named u) n (λ x e. ap (is_named u) (sym (nat_cmp-IsAntisymmetric n x e))) u.nodes
+
+    by : (n : ℕ) → node_of (named kept) n ≡ node_of (named t) n
+    by n = look kept n ∙ ap (λ b. cond b (node_of kept n) None) (test n) ∙ elim (is.nodes n) [
+      | inl same ↦ ap (λ o. cond (is_named t n) o None) same
+      | inr gone ↦ ap (λ b. cond b (node_of kept n) None) (nameless_test t tree n gone.0) ∙ sym (ap (λ b. cond b (node_of t n) None) (nameless_test t tree n gone.0))
+    ] ∙ sym (look t n)
+
+    nodes : (named kept).nodes ≡ (named t).nodes
+    nodes = same_numbers (named kept).nodes (named t).nodes (is_sorted-where_key nat_cmp (is_named kept) kept.nodes is.sorted) (is_sorted-where_key nat_cmp (is_named t) t.nodes tree.sorted_nodes) by
+
+-- what a failed mount leaves is saved still
+pub saved_still : (k : Limits) (m now : Objects) (t : Tree) (n : ℕ) → Keeps m now → IsSaved k m t n → IsSaved k now t n
+saved_still k m now t n keeps saved =
+    let next_kept = saved.is_kept.next in
+    let h = saved.next in
+    let low : saved.kept.next ≤ 2 ^ 63 = omega arith in
+    let u = keeps.each saved.kept n saved.kept_tree low saved.shows in
+    record { tree = saved.tree; kept = u.0; is_kept = kept_both t saved.kept u.0 saved.is_kept u.1; kept_tree = u.2; shows = u.3; next = saved.next; count = saved.count; room = saved.room }
+
+-- and each that is left has a name
+named_all : (t : Tree) (n : ℕ) (node : Node) → node_of (named t) n ≡ Some node → is_named t n ≡ true
+named_all t n node e = by (is_named t n) (sym (find-where_key nat_cmp (is_named t) n (λ x e. ap (is_named t) (sym (nat_cmp-IsAntisymmetric n x e))) t.nodes) ∙ e)
+  where
+    by : (b : Bool) → cond b (node_of t n) None ≡ Some node → b ≡ true
+    by true e = refl
+    by false e = absurd (cc)
+
 module _ (old : Machine) (up : old.up ≡ true) (idle : old.pending ≡ none_open) where
-  shows_live : (changes next keys pages charged : ℕ) → keys ≡ old.room_keys → pages ≡ old.room_pages → keys < 2 ^ 32
-      → option_and_then read_super (objects.get old.stable super_key) ≡ Some (changes, next) → charged ≡ charge_in old.stable
-      → (past : Past) (k : ℕ) → IsStored old (tree_at past k) k → (changes ≡ k) × ShowsLive (record { run = started old changes next; keys = keys; pages = pages; charge = charged; down = None }) (up_at past k)
-  shows_live changes next keys pages charged keys_is pages_is small head counted past k before =
-      let t = named (tree_at past k) in
-      let stored = subst (λ t. IsStored old t k) (sym (named_whole (tree_at past k) before.whole)) before in
-      let e : Some (changes, next) ≡ Some (k, t.next) = sym head ∙ ap (option_and_then read_super) stored.shows.head ∙ read_super_value k t.next stored.count stored.next in
-      let both = same_Some _ _ e in
+  shows_live : (now : Objects) → Cleared old.stable now → (changes next keys pages charged chunked : ℕ) → keys ≡ old.room_keys → pages ≡ old.room_pages → keys < 2 ^ 32
+      → option_and_then read_super (objects.get old.stable super_key) ≡ Some (changes, next) → charged ≡ charge_in now → chunked ≡ chunks_in now
+      → (past : Past) (k : ℕ) → IsStored old (tree_at past k) k → (changes ≡ k) × ShowsLive (record { run = begun_over old now changes next; keys = keys; pages = pages; charge = charged; chunks = chunked; files = no_files; down = None }) (up_at past k)
+  shows_live now cleared changes next keys pages charged chunked keys_is pages_is small head counted pieces past k before =
+      let t = tree_at past k in
+      let u = named t in
+      let low : t.next ≤ 2 ^ 63 = let h = before.next in omega arith in
+      let kept = before.kept in
+      let next_kept = before.is_kept.next in
+      let few_kept : kept.next < 2 ^ 63 = let h = before.next in omega arith in
+      let same = named_kept_same t kept before.tree before.is_kept in
+      let got = cleared.each kept k before.kept_tree (omega arith) before.shows in
+      let shown : IsTree u × Shows now u k = subst (λ (v : Tree). IsTree v × Shows now v k) same got in
+      let e : Some (changes, next) ≡ Some (k, t.next) = sym head ∙ ap (option_and_then read_super) before.shows.head ∙ read_super_value k kept.next before.count few_kept ∙ ap (λ n. Some (k, n)) next_kept in
+      let both : (changes, next) ≡ (k, t.next) = same_Some (changes, next) (k, t.next) e in
       let changes_is : changes ≡ k = ap (λ (p : ℕ × ℕ). p.0) both in
       let next_is : next ≡ t.next = ap (λ (p : ℕ × ℕ). p.1) both in
-      let low : t.next ≤ 2 ^ 63 = let h = stored.next in omega arith in
-      let few = few_objects old.stable t stored.tree stored.shows.tree low in
-      let h = both_true (nat_le (charge t) old.room_keys) (nat_le (chunks t) old.room_pages) stored.room in
-      let le : charge t ≤ old.room_keys = grind (arith, nat_tests, h.0) in (
+      let few = few_objects now u shown.0 shown.1.tree low in
+      let room = named_fits (limits_in old) t before.room in
+      let h = both_true (nat_le (charge u) old.room_keys) (nat_le (chunks u) old.room_pages) room in
+      let le : charge u ≤ old.room_keys = grind (arith, nat_tests, h.0) in
+      let held : objects.len now < 2 ^ 32 = omega arith in
+      let over : Machine = record old { stable = now } in
+      let stands : Stands now u = record { tree = shown.0; shows = shown.1.tree; low = low } in
+      let stored : IsSaved (limits_in old) now u k = record { tree = shown.0; kept = u; is_kept = kept_all u shown.0; kept_tree = shown.0; shows = shown.1; next = before.next; count = before.count; room = room } in (
         changes_is,
         record {
           up = refl;
-          ready = ready old up idle changes next;
-          tree = stored.tree;
-          low = stored.next;
-          few_changes = stored.count;
-          whole = stored.whole;
-          sees = subst (λ m. Shows m t k) (sym (sees_stable old up idle)) stored.shows;
-          saved = subst (λ u. IsSaved (record { keys = keys; pages = pages }) old.stable u k) (sym (there past k)) (subst (λ l. IsSaved l old.stable t k) (λ i. record { keys = sym keys_is i; pages = sym pages_is i }) stored);
+          ready = ready over up idle changes next;
+          tree = shown.0;
+          low = before.next;
+          few_changes = before.count;
+          sees = subst (λ m. Shows m u k) (sym (sees_stable over up idle)) shown.1;
+          saved = subst (λ v. IsSaved (record { keys = keys; pages = pages }) now v k) (sym (there past k)) (subst (λ l. IsSaved l now u k) (λ i. record { keys = sym keys_is i; pages = sym pages_is i }) stored);
           newest = there past k;
-          behind = omega arith;
+          behind = let e : k ≤ k = omega arith in e;
           desk = refl;
+          holds = nothing_holds u (named_all t);
           count = changes_is;
           next = next_is;
           changes = refl;
           weight = refl;
-          light = omega arith;
-          few = let z = none_changed old up idle changes next in omega arith;
+          light = lit< tt;
+          few = let z = none_changed over up idle changes next in omega arith;
           keys = keys_is;
           pages = pages_is;
-          charged = counted ∙ charge_same old.stable t (record { tree = stored.tree; shows = stored.shows.tree; low = low }) (omega arith);
-          room = (λ i. nat_le (charge t) (keys_is i) && nat_le (chunks t) (pages_is i)) ∙ stored.room;
+          charged = counted ∙ charge_same now u stands held;
+          chunked = pieces ∙ chunks_same now u stands held;
+          room = (λ i. nat_le (charge u) (keys_is i) && nat_le (chunks u) (pages_is i)) ∙ room;
         },
       )
 
   -- a mount that began so
-  pub mounted : (kfs : KfsState) → old.room_keys ≤ 68544 → Started old kfs → Mounts old (book_of kfs None)
-  mounted kfs few h =
+  pub mounted : (kfs : KfsState) (o : Opens) → o ≡ no_files → old.room_keys ≤ 68544 → Started old kfs → Mounts old (book_of kfs o None)
+  mounted kfs o none few h =
       let r = run_in kfs in
-      subst (λ (x : Run). Mounts old (record { run = x; keys = kfs.keys; pages = kfs.pages; charge = kfs.charge; down = None })) (sym h.run)
-      (record { each = shows_live r.changes r.next kfs.keys kfs.pages kfs.charge h.keys h.pages (let e = h.keys in omega arith) h.head h.charge })
-
--- a mount that failed left the tree as it was
-pub keeps : (old new : Machine) → new.stable ≡ old.stable → Keeps old new
-keeps old new same = record { each = λ t k tree shows. (t, record { names = refl; next = refl; sorted = tree.sorted_nodes; nodes = λ n. inl refl }, subst (λ m. Shows m t k) (sym same) shows) }
+      let now = r.machine.stable in
+      subst (λ x. Mounts old (book_of kfs x None)) (sym none)
+      (subst (λ (x : Run). Mounts old (record { run = x; keys = kfs.keys; pages = kfs.pages; charge = kfs.charge; chunks = kfs.chunks; files = no_files; down = None })) (sym h.run)
+      (record { each = shows_live now h.cleared r.changes r.next kfs.keys kfs.pages kfs.charge kfs.chunks h.keys h.pages (let e = h.keys in omega arith) h.head h.charge h.chunks }))

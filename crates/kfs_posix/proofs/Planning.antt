@@ -1,6 +1,6 @@
 -- Planned cuts and faults, as events of a life.
 use Rattle.std.proofs.Common.{◌≡◌, ℕ, ◌<◌, ◌≤◌, ◌+◌, ◌-◌, ◌^◌, min, true, Option, refl, ◌∙◌, arith, subst, sym}
-use Rattle.kv_device.specs.Machine.{Machine, view, with_most_cuts, with_most_faults}
+use Rattle.kv_device.specs.Machine.{view, with_most_cuts, with_most_faults}
 use Rattle.kfs_path.specs.declared.call.Reply.TheVariants as replies
 use Rattle.kfs_model.specs.declared.Line.TheVariants as lines
 use Rattle.kfs_model.specs.declared.Answer.TheVariants as answers
@@ -9,6 +9,7 @@ use Rattle.kfs_shows.specs.Shows.{Shows}
 use Rattle.kfs_tx.specs.Run.{Run, seen}
 use Rattle.kfs_path.specs.declared.call.Cause.{Cause}
 use Rattle.kfs_core.specs.Core.{KfsState, run_in, Stays}
+use Rattle.kfs_posix.specs.Opens.{Opens}
 use Rattle.kfs_posix.specs.Book.{Book, SessionState, state_of, book_of, limits_of}
 use Rattle.kfs_posix.proofs.Fault.{stays_book}
 use Rattle.kfs_posix.specs.Showing.{ShowsLive, ShowsNow, ShowsState, GoesOn}
@@ -43,12 +44,12 @@ still_live b cuts faults live sh = record {
   tree = sh.tree;
   low = sh.low;
   few_changes = sh.few_changes;
-  whole = sh.whole;
   sees = subst (λ m. Shows m live.world.tree live.past.count) (sym (same_seen b.run cuts faults)) sh.sees;
   saved = sh.saved;
   newest = sh.newest;
   behind = sh.behind;
   desk = sh.desk;
+  holds = sh.holds;
   count = sh.count;
   next = sh.next;
   changes = sh.changes;
@@ -58,6 +59,7 @@ still_live b cuts faults live sh = record {
   keys = sh.keys;
   pages = sh.pages;
   charged = sh.charged;
+  chunked = sh.chunked;
   room = sh.room;
 }
 
@@ -83,12 +85,12 @@ plan_goes b n how few = record { each = λ s showing. by s showing s.now showing
     by s showing (Up live) sh = (record { now = Up live; cut_armed = true; fail_armed = s.fail_armed }, (refl, refl), shown s showing (Up live) sh)
     by s showing (Down past may) sh = (record { now = Down past may; cut_armed = true; fail_armed = s.fail_armed }, (refl, refl), shown s showing (Down past may) sh)
 
-pub plan_by : (old : SessionState) (k0 k1 : KfsState) (d : Option Cause) (n how : ℕ) → state_of k0 d ≡ old → Stays k0 k1 → run_in k1 ≡ planned_run (run_in k0) → old.book.run.machine.cuts + 1 < 2 ^ 63 → GoesOn old.book (lines.Cut n how) (answers.Reply replies.Done) (book_of k1 d)
-plan_by old k0 k1 d n how is rest planned few =
-    let e : book_of k1 d ≡ planned_book (book_of k0 d) = stays_book k0 k1 d rest ∙ (λ i. record (book_of k0 d) { run = planned i }) in
+pub plan_by : (old : SessionState) (k0 k1 : KfsState) (o : Opens) (d : Option Cause) (n how : ℕ) → state_of k0 o d ≡ old → Stays k0 k1 → run_in k1 ≡ planned_run (run_in k0) → old.book.run.machine.cuts + 1 < 2 ^ 63 → GoesOn old.book (lines.Cut n how) (answers.Reply replies.Done) (book_of k1 o d)
+plan_by old k0 k1 o d n how is rest planned few =
+    let e : book_of k1 o d ≡ planned_book (book_of k0 o d) = stays_book k0 k1 o d rest ∙ (λ i. record (book_of k0 o d) { run = planned i }) in
     let low : (run_in k0).machine.cuts + 1 < 2 ^ 63 = subst (λ (s : SessionState). s.book.run.machine.cuts + 1 < 2 ^ 63) (sym is) few in
-    subst (λ (s : SessionState). GoesOn s.book (lines.Cut n how) (answers.Reply replies.Done) (book_of k1 d)) is
-    (subst (λ c. GoesOn (book_of k0 d) (lines.Cut n how) (answers.Reply replies.Done) c) (sym e) (plan_goes (book_of k0 d) n how low))
+    subst (λ (s : SessionState). GoesOn s.book (lines.Cut n how) (answers.Reply replies.Done) (book_of k1 o d)) is
+    (subst (λ c. GoesOn (book_of k0 o d) (lines.Cut n how) (answers.Reply replies.Done) c) (sym e) (plan_goes (book_of k0 o d) n how low))
 
 pub fail_goes : (b : Book) (kind n most : ℕ) → b.run.machine.faults ≤ most → most ≤ min (b.run.machine.faults + 1) (2 ^ 64 - 1) → b.run.machine.faults + 1 < 2 ^ 63 → GoesOn b (lines.Fail kind n) (answers.Reply replies.Done) (failing_book b most)
 fail_goes b kind n most fewest least few = record { each = λ s showing. by s showing s.now showing.now }
@@ -108,10 +110,10 @@ fail_goes b kind n most fewest least few = record { each = λ s showing. by s sh
     by s showing (Up live) sh = (record { now = Up live; cut_armed = s.cut_armed; fail_armed = true }, (refl, refl), shown s showing (Up live) sh)
     by s showing (Down past may) sh = (record { now = Down past may; cut_armed = s.cut_armed; fail_armed = true }, (refl, refl), shown s showing (Down past may) sh)
 
-pub fail_by : (old : SessionState) (k0 k1 : KfsState) (d : Option Cause) (kind n most : ℕ) → state_of k0 d ≡ old → Stays k0 k1 → run_in k1 ≡ failing_run (run_in k0) most
-    → (run_in k0).machine.faults ≤ most → most ≤ min ((run_in k0).machine.faults + 1) (2 ^ 64 - 1) → old.book.run.machine.faults + 1 < 2 ^ 63 → GoesOn old.book (lines.Fail kind n) (answers.Reply replies.Done) (book_of k1 d)
-fail_by old k0 k1 d kind n most is rest planned fewest least few =
-    let e : book_of k1 d ≡ failing_book (book_of k0 d) most = stays_book k0 k1 d rest ∙ (λ i. record (book_of k0 d) { run = planned i }) in
+pub fail_by : (old : SessionState) (k0 k1 : KfsState) (o : Opens) (d : Option Cause) (kind n most : ℕ) → state_of k0 o d ≡ old → Stays k0 k1 → run_in k1 ≡ failing_run (run_in k0) most
+    → (run_in k0).machine.faults ≤ most → most ≤ min ((run_in k0).machine.faults + 1) (2 ^ 64 - 1) → old.book.run.machine.faults + 1 < 2 ^ 63 → GoesOn old.book (lines.Fail kind n) (answers.Reply replies.Done) (book_of k1 o d)
+fail_by old k0 k1 o d kind n most is rest planned fewest least few =
+    let e : book_of k1 o d ≡ failing_book (book_of k0 o d) most = stays_book k0 k1 o d rest ∙ (λ i. record (book_of k0 o d) { run = planned i }) in
     let low : (run_in k0).machine.faults + 1 < 2 ^ 63 = subst (λ (s : SessionState). s.book.run.machine.faults + 1 < 2 ^ 63) (sym is) few in
-    subst (λ (s : SessionState). GoesOn s.book (lines.Fail kind n) (answers.Reply replies.Done) (book_of k1 d)) is
-    (subst (λ c. GoesOn (book_of k0 d) (lines.Fail kind n) (answers.Reply replies.Done) c) (sym e) (fail_goes (book_of k0 d) kind n most fewest least low))
+    subst (λ (s : SessionState). GoesOn s.book (lines.Fail kind n) (answers.Reply replies.Done) (book_of k1 o d)) is
+    (subst (λ c. GoesOn (book_of k0 o d) (lines.Fail kind n) (answers.Reply replies.Done) c) (sym e) (fail_goes (book_of k0 o d) kind n most fewest least low))

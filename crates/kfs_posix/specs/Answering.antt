@@ -3,7 +3,7 @@ use Rattle.std.specs.Prelude.{◌≡◌, Option, Some, None, IsSome}
 use Rattle.kv_device.specs.Machine.{Machine}
 use Rattle.kv_device.specs.Calls.{Rises}
 use Rattle.kfs_path.specs.declared.call.Cause.{Cause}
-use Rattle.kfs_path.specs.declared.call.Cause.TheVariants.{Cut, Eio, NoMem}
+use Rattle.kfs_path.specs.declared.call.Cause.TheVariants.{Cut, Eio}
 use Rattle.kfs_path.specs.declared.call.Reply.{Reply}
 use Rattle.kfs_path.specs.declared.call.Reply.TheVariants.{Down, Off, Err}
 use Rattle.kfs_core.specs.declared.fault.CoreFault.{CoreFault}

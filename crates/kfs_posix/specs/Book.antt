@@ -9,12 +9,15 @@ use Rattle.kfs_model.specs.Tree.{Limits}
 use Rattle.kfs_tx.specs.Run.{Run, RunState}
 use Rattle.kfs_tx.specs.Codes.{run_code}
 use Rattle.kfs_core.specs.Core.{KfsState}
+use Rattle.kfs_posix.specs.Opens.{Opens, opens_code}
 
 pub record Book : Type 0 where
   pub run : Run
   pub keys : ℕ
   pub pages : ℕ
   pub charge : ℕ
+  pub chunks : ℕ
+  pub files : Opens
   pub down : Option Cause
 
 -- a session, as its callers see it
@@ -22,11 +25,11 @@ pub record SessionState : Type 0 where
   pub book : Book
   pub device_age : ℕ
 
-abbrev pub book_of : KfsState → Option Cause → Book
-book_of kfs down = record { run = kfs.running.run; keys = kfs.keys; pages = kfs.pages; charge = kfs.charge; down = down }
+abbrev pub book_of : KfsState → Opens → Option Cause → Book
+book_of kfs files down = record { run = kfs.running.run; keys = kfs.keys; pages = kfs.pages; charge = kfs.charge; chunks = kfs.chunks; files = files; down = down }
 
-abbrev pub state_of : KfsState → Option Cause → SessionState
-state_of kfs down = record { book = book_of kfs down; device_age = kfs.running.device_age }
+abbrev pub state_of : KfsState → Opens → Option Cause → SessionState
+state_of kfs files down = record { book = book_of kfs files down; device_age = kfs.running.device_age }
 
 -- its running transaction
 abbrev pub running_in : SessionState → RunState
@@ -59,9 +62,9 @@ cause_at-number_of NoMem = refl
 
 abbrev pub book_code : Coded Book
 book_code =
-    code_by (Run × (ℕ × (ℕ × (ℕ × Option Cause)))) (coded× run_code (coded× coded_ℕ (coded× coded_ℕ (coded× coded_ℕ (coded_option (code_by ℕ coded_ℕ number_of cause_at cause_at-number_of))))))
-    (λ b. (b.run, (b.keys, (b.pages, (b.charge, b.down)))))
-    (λ p. record { run = p.0; keys = p.1.0; pages = p.1.1.0; charge = p.1.1.1.0; down = p.1.1.1.1 })
+    code_by (Run × (ℕ × (ℕ × (ℕ × (ℕ × (Opens × Option Cause)))))) (coded× run_code (coded× coded_ℕ (coded× coded_ℕ (coded× coded_ℕ (coded× coded_ℕ (coded× opens_code (coded_option (code_by ℕ coded_ℕ number_of cause_at cause_at-number_of))))))))
+    (λ b. (b.run, (b.keys, (b.pages, (b.charge, (b.chunks, (b.files, b.down)))))))
+    (λ p. record { run = p.0; keys = p.1.0; pages = p.1.1.0; charge = p.1.1.1.0; chunks = p.1.1.1.1.0; files = p.1.1.1.1.1.0; down = p.1.1.1.1.1.1 })
     (λ _. refl)
 
 abbrev pub session_code : Coded SessionState

@@ -4,3 +4,12 @@ pub mod Showing
 pub mod Mounting
 pub mod Answering
 pub mod Built
+pub mod Opens
+pub mod Holding
+pub mod Removing
+pub mod Renaming
+pub mod Closing
+pub mod Turning
+pub mod Opening
+pub mod Reading
+pub mod Writing

@@ -1,5 +1,5 @@
 -- What a path names, looked up first and then asked.
-use Rattle.std.specs.Prelude.{ℕ, ◌==◌, List, Result, Ok, Err, if◌then◌else◌}
+use Rattle.std.specs.Prelude.{ℕ, ◌==◌, List, Result, Ok, if◌then◌else◌}
 use Rattle.kv_device.specs.Objects.{Objects}
 use Rattle.kfs_path.specs.declared.call.Errno.{Errno}
 use Rattle.kfs_path.specs.declared.call.Reply.{Reply}

@@ -1,9 +1,8 @@
 -- What a mount finds, and what it gives.
 use Rattle.std.specs.Prelude.{ℕ, ◌≡◌}
 use Rattle.kv_device.specs.Machine.{Machine}
-use Rattle.kfs_model.specs.Tree.{Tree, Limits, IsTree, IsKept}
+use Rattle.kfs_model.specs.Tree.{Tree, Limits}
 use Rattle.kfs_model.specs.Life.{Past, tree_at, up_at}
-use Rattle.kfs_shows.specs.Shows.{Shows}
 use Rattle.kfs_posix.specs.Book.{Book}
 use Rattle.kfs_posix.specs.Showing.{ShowsLive, IsSaved}
 
@@ -17,7 +16,3 @@ IsStored m t k = IsSaved (limits_in m) m.stable t k
 -- whatever it holds, the session goes on from there
 pub record Mounts (old : Machine) (new : Book) : Type 0 where
   pub each : (past : Past) (k : ℕ) → IsStored old (tree_at past k) k → (new.run.changes ≡ k) × ShowsLive new (up_at past k)
-
--- whatever it held, it holds the same tree still, or that without some nameless nodes
-pub record Keeps (old new : Machine) : Type 0 where
-  pub each : (t : Tree) (k : ℕ) → IsTree t → Shows old.stable t k → (kept : Tree) × IsKept t kept × Shows new.stable kept k

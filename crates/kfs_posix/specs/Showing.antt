@@ -4,22 +4,25 @@ use Rattle.kfs_path.specs.declared.call.Cause.{Cause}
 use Rattle.kfs_model.specs.declared.Answer.{Answer}
 use Rattle.kfs_model.specs.declared.Line.{Line}
 use Rattle.kv_device.specs.Objects.{Objects}
-use Rattle.kfs_model.specs.Tree.{Tree, Limits, charge, has_room, IsTree}
-use Rattle.kfs_model.specs.Desk.{empty_desk}
+use Rattle.kfs_model.specs.Tree.{Tree, Limits, charge, chunks, has_room, IsTree, IsKept}
 use Rattle.kfs_model.specs.Life.{State, Live, Now, Up, Down, Past, tree_at, Event, AnyOf}
 use Rattle.kfs_shows.specs.Shows.{Shows}
-use Rattle.kfs_shows.specs.Named.{AllNamed}
 use Rattle.kfs_tx.specs.Run.{IsReady, seen, changed_keys}
 use Rattle.kfs_posix.specs.Book.{Book, limits_of}
+use Rattle.kfs_posix.specs.Opens.{desk_of}
+use Rattle.kfs_posix.specs.Holding.{Holds}
 
--- the objects stand for the tree after n changes: they show it, with room, and no node of it is nameless
+-- the objects stand for the tree after n changes, which has room: they show it, or that without some of
+-- its nameless nodes
 pub record IsSaved (k : Limits) (m : Objects) (t : Tree) (n : ℕ) : Type 0 where
   pub tree : IsTree t
-  pub shows : Shows m t n
+  pub kept : Tree
+  pub is_kept : IsKept t kept
+  pub kept_tree : IsTree kept
+  pub shows : Shows m kept n
   pub next : t.next < 2 ^ 63
   pub count : n < 2 ^ 63
   pub room : has_room k t ≡ true
-  pub whole : AllNamed t
 
 -- an up session: the transaction's view shows the live tree, and `stable` the tree at mark
 pub record ShowsLive (b : Book) (live : Live) : Type 0 where
@@ -28,12 +31,12 @@ pub record ShowsLive (b : Book) (live : Live) : Type 0 where
   pub tree : IsTree live.world.tree
   pub low : live.world.tree.next < 2 ^ 63
   pub few_changes : live.past.count < 2 ^ 63
-  pub whole : AllNamed live.world.tree
   pub sees : Shows (seen b.run) live.world.tree live.past.count
   pub saved : IsSaved (limits_of b) b.run.machine.stable (tree_at live.past live.mark) live.mark
   pub newest : tree_at live.past live.past.count ≡ live.world.tree
   pub behind : live.mark ≤ live.past.count
-  pub desk : live.world.desk ≡ empty_desk
+  pub desk : live.world.desk ≡ desk_of b.files
+  pub holds : Holds b.files live.world.tree
   pub count : b.run.changes ≡ live.past.count
   pub next : b.run.next ≡ live.world.tree.next
   pub changes : b.run.since ≡ live.since.changes
@@ -43,6 +46,7 @@ pub record ShowsLive (b : Book) (live : Live) : Type 0 where
   pub keys : b.keys ≡ b.run.machine.room_keys
   pub pages : b.pages ≡ b.run.machine.room_pages
   pub charged : b.charge ≡ charge live.world.tree
+  pub chunked : b.chunks ≡ chunks live.world.tree
   pub room : has_room (limits_of b) live.world.tree ≡ true
 
 -- a session that is down: `stable` shows the tree after k changes, for a k that may stand

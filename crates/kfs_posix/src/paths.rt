@@ -17,7 +17,7 @@ use kv_base::Names;
 use kv_device::Device;
 use std::alloc::Global;
 
-fn syntax(alloc: Global, bytes: &[u8]) -> Result<Path, CoreFault>
+pub fn syntax(alloc: Global, bytes: &[u8]) -> Result<Path, CoreFault>
     ensures gives { Gives route_of result (syntax bytes.now) }
     ensures named { IfOk result (λ path. All IsNamed path.pieces) }
     ensures own { IfErr result IsOwn }
@@ -63,6 +63,7 @@ pub fn make<D: Device>(alloc: Global, kfs: &mut Kfs<D>, path: &[u8]) -> Result<(
     ensures does { MkdirDoes (run_in kfs.old) (place_in (seen (run_in kfs.old)) kfs.old.keys kfs.old.charge path.now) result (run_in kfs.new) }
     ensures charge { OnOk result (kfs.new.charge ≡ kfs.old.charge + 2) }
     ensures same_charge { IfErr result (λ _. kfs.new.charge ≡ kfs.old.charge) }
+    ensures chunks { kfs.new.chunks ≡ kfs.old.chunks }
     ensures keys { kfs.new.keys ≡ kfs.old.keys }
     ensures pages { kfs.new.pages ≡ kfs.old.pages }
     ensures age { Aged kfs.old.running kfs.new.running (2 ^ 16) }

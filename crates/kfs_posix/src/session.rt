@@ -7,7 +7,7 @@ ghost use Rattle.kfs_core.specs.Starting.{NotMounted};
 ghost use Rattle.kfs_posix.specs.Answering.{Counts, KeepsCause, refusal, down_after};
 ghost use Rattle.kfs_posix.specs.Book.{cause_of};
 
-use crate::paths::{found, make, names};
+use crate::open_files::OpenFiles;
 use kfs_core::{CoreFault, HostFault, Kfs};
 use kfs_path::{Call, Cause, Reply};
 use kv_device::{Device, DeviceFault, PlannedDevice};
@@ -18,8 +18,9 @@ use std::marker::Model;
 /// so until it is mounted again.
 #[derive(Drop)]
 pub struct Session<D: Device> {
-    kfs: Kfs<D>,
-    down: Option<Cause>,
+    pub(crate) kfs: Kfs<D>,
+    pub(crate) files: OpenFiles,
+    pub(crate) down: Option<Cause>,
 }
 
 impl<D: Device> Model for Session<D> {
@@ -30,7 +31,7 @@ impl<D: Device> Model for Session<D> {
 
     ghost coded = { session_code };
 
-    ghost view = { λ s. state_of s.kfs s.down };
+    ghost view = { λ s. state_of s.kfs s.files.opens s.down };
 
     ghost invariant = { λ s. s.down ≡ None → s.kfs.running.run.machine.up ≡ true };
 }
@@ -46,7 +47,7 @@ fn cause_of(fault: &DeviceFault) -> Cause
 }
 
 /// The answer to a fault, which takes the session down where it isn't an error of the call.
-fn refuse(down: &mut Option<Cause>, fault: CoreFault) -> Reply
+pub fn refuse(down: &mut Option<Cause>, fault: CoreFault) -> Reply
     ensures reply { result ≡ refusal fault }
     ensures down { down.new ≡ down_after down.old fault }
 {
@@ -66,7 +67,8 @@ impl<D: Device> Session<D> {
     ghost use Rattle.kfs_model.specs.declared.Answer.TheVariants as answers;
     ghost use Rattle.kfs_posix.specs.Book.{running_in, limits_of};
     ghost use Rattle.kfs_posix.specs.Built.{is_built};
-    ghost use Rattle.kfs_posix.specs.Mounting.{Mounts, Keeps};
+    ghost use Rattle.kfs_core.specs.Clearing.{Keeps};
+    ghost use Rattle.kfs_posix.specs.Mounting.{Mounts};
     ghost use Rattle.kfs_posix.specs.Showing.{GoesOn};
 
     /// Goes on from the tree that the device holds, with no descriptor open.
@@ -76,82 +78,23 @@ impl<D: Device> Session<D> {
         requires idle { (D.machine device).pending ≡ none_open }
         requires room { (D.machine device).room_keys ≤ 68544 }
         ensures ok { IfOk result (λ s. Mounts (D.machine device) s.book) }
-        ensures begun { IfOk result (λ s. s.book.run.machine ≡ begun (D.machine device) 0) }
+        ensures begun { IfOk result (λ s. s.book.run.machine ≡ begun (record (D.machine device) { stable = s.book.run.machine.stable }) 0) }
         ensures up { IfOk result (λ s. s.book.down ≡ None) }
         ensures keys { IfOk result (λ s. s.book.keys ≡ (D.machine device).room_keys) }
         ensures changes { IfOk result (λ s. s.book.run.changes < 2 ^ 62) }
         ensures next { IfOk result (λ s. s.book.run.next < 2 ^ 62) }
         ensures err { IfErr result (λ e. NotMounted (D.machine device) e.1 (D.machine e.0)) }
-        ensures kept { IfErr result (λ e. Keeps (D.machine device) (D.machine e.0)) }
+        ensures kept { IfErr result (λ e. Keeps (D.machine device).stable (D.machine e.0).stable) }
         ensures age { IfOk result (λ s. Ages (D.age device) s.device_age (2 ^ 38)) }
         ensures age_left { IfErr result (λ e. Ages (D.age device) (D.age e.0) (2 ^ 38)) }
     {
         match Kfs::mount(alloc, device) {
-            Ok(kfs) => Ok(Session { kfs, down: None }),
+            Ok(kfs) => Ok(Session {
+                kfs,
+                files: OpenFiles::new(alloc),
+                down: None,
+            }),
             Err((device, fault)) => Err((device, fault)),
-        }
-    }
-
-    /// Makes a directory.
-    pub fn mkdir(&mut self, alloc: Global, path: &[u8]) -> Reply
-        requires { age_of (running_in self.old) < 2 ^ 63 - 2 ^ 40 }
-        ensures goes_on { GoesOn self.old.book (lines.Call (calls.Mkdir path.now)) (answers.Reply result) self.new.book }
-        ensures counts { Counts self.old.book.run.machine result self.new.book.run.machine }
-        ensures room { limits_of self.new.book ≡ limits_of self.old.book }
-        ensures down { KeepsCause self.old.book result self.new.book }
-        ensures age { Aged (running_in self.old) (running_in self.new) (2 ^ 38) }
-    {
-        if self.down.is_some() {
-            return Reply::Off;
-        }
-        match make(alloc, &mut self.kfs, path) {
-            Ok(()) => Reply::Done,
-            Err(fault) => refuse(&mut self.down, fault),
-        }
-    }
-
-    /// What a path names.
-    pub fn stat(&mut self, alloc: Global, path: &[u8]) -> Reply
-        requires { age_of (running_in self.old) < 2 ^ 63 - 2 ^ 40 }
-        ensures goes_on { GoesOn self.old.book (lines.Call (calls.Stat path.now)) (answers.Reply result) self.new.book }
-        ensures counts { Counts self.old.book.run.machine result self.new.book.run.machine }
-        ensures room { limits_of self.new.book ≡ limits_of self.old.book }
-        ensures down { KeepsCause self.old.book result self.new.book }
-        ensures age { Aged (running_in self.old) (running_in self.new) (2 ^ 38) }
-    {
-        if self.down.is_some() {
-            return Reply::Off;
-        }
-        match found(alloc, &mut self.kfs, path) {
-            Ok((node, it)) => {
-                if it.kind == 1 {
-                    return Reply::Dir { node };
-                }
-                Reply::File {
-                    node,
-                    length: it.length,
-                }
-            }
-            Err(fault) => refuse(&mut self.down, fault),
-        }
-    }
-
-    /// The names in a directory, sorted by bytes.
-    pub fn list(&mut self, alloc: Global, path: &[u8]) -> Reply
-        requires room { self.old.book.keys ≤ 68544 }
-        requires age { age_of (running_in self.old) < 2 ^ 63 - 2 ^ 40 }
-        ensures goes_on { GoesOn self.old.book (lines.Call (calls.List path.now)) (answers.Reply result) self.new.book }
-        ensures counts { Counts self.old.book.run.machine result self.new.book.run.machine }
-        ensures room { limits_of self.new.book ≡ limits_of self.old.book }
-        ensures down { KeepsCause self.old.book result self.new.book }
-        ensures age { Aged (running_in self.old) (running_in self.new) (2 ^ 38) }
-    {
-        if self.down.is_some() {
-            return Reply::Off;
-        }
-        match names(alloc, &mut self.kfs, path) {
-            Ok(names) => Reply::Names(names),
-            Err(fault) => refuse(&mut self.down, fault),
         }
     }
 
@@ -173,6 +116,18 @@ impl<D: Device> Session<D> {
         }
     }
 
+    /// What the tree takes of the keys and the pages, and how many there are. It takes no memory.
+    pub fn room(&self) -> Reply
+        ensures goes_on { GoesOn self.now.book (lines.Call calls.Room) (answers.Reply result) self.now.book }
+        ensures counts { Counts self.now.book.run.machine result self.now.book.run.machine }
+        ensures down { KeepsCause self.now.book result self.now.book }
+    {
+        if self.down.is_some() {
+            return Reply::Off;
+        }
+        self.kfs.room()
+    }
+
     /// Does the call that is named, one of those that are built.
     pub fn step(&mut self, alloc: Global, call: &Call) -> Reply
         requires built { is_built call.now ≡ true }
@@ -188,6 +143,20 @@ impl<D: Device> Session<D> {
             Call::Mkdir { path } => self.mkdir(alloc, path.bytes()),
             Call::Stat { path } => self.stat(alloc, path.bytes()),
             Call::List { path } => self.list(alloc, path.bytes()),
+            Call::Open { path, flags } => self.open(alloc, path.bytes(), *flags),
+            Call::Close { fd } => self.close(alloc, *fd),
+            Call::Dup { fd } => self.dup(*fd),
+            Call::Lseek { fd, whence, offset } => self.lseek(*fd, *whence, *offset),
+            Call::Fstat { fd } => self.fstat(alloc, *fd),
+            Call::Fsync { fd } => self.fsync(alloc, *fd),
+            Call::Read { fd, count } => self.read(alloc, *fd, *count),
+            Call::Pread { fd, count, offset } => self.pread(alloc, *fd, *count, *offset),
+            Call::Write { fd, bytes } => self.write_data(alloc, *fd, bytes),
+            Call::Pwrite { fd, bytes, offset } => self.pwrite_data(alloc, *fd, bytes, *offset),
+            Call::Unlink { path } => self.unlink(alloc, path.bytes()),
+            Call::Rmdir { path } => self.rmdir(alloc, path.bytes()),
+            Call::Rename { old, new } => self.rename(alloc, old.bytes(), new.bytes()),
+            Call::Room => self.room(),
             _ => self.sync(alloc),
         }
     }

@@ -1,51 +1,51 @@
-use Rattle.std.proofs.Common.{◌≡◌, ◌+◌, ◌^◌, ◌∙◌, None, refl, sym, ap, arith}
+use Rattle.std.proofs.Common.{◌^◌, ◌∙◌, sym, ap, arith}
 use Rattle.kfs_path.specs.declared.call.Call.TheVariants as calls
 use Rattle.kfs_tx.specs.Run.{Run}
 use Rattle.kfs_core.specs.Core.{run_in}
 use Rattle.kfs_core.specs.Making.{parent_of}
 use Rattle.kfs_posix.proofs.Calls.{none_of}
-use Rattle.kfs_posix.proofs.Fault.{counts_by, keeps_by, none_kept, counts_same, mkdir_counts, mkdir_awake, made_same}
-use Rattle.kfs_posix.proofs.Answered.{off_goes, off_keeps, aged_none, aged_by, age_in, keys_in, mkdir_answered, mkdir_not_made}
+use Rattle.kfs_posix.proofs.Fault.{counts_by, keeps_by, none_kept, counts_same, add_counts, add_awake, added_same}
+use Rattle.kfs_posix.proofs.Answered.{off_goes, off_keeps, aged_none, aged_by, age_in, mkdir_answered, mkdir_not_made}
 use Rattle.kfs_posix.proofs.session.Session.mkdir.Goals as goal
 
 pub returns-then-is_some-clause-goes_on : goal.returns-then-is_some-clause-goes_on
-returns-then-is_some-clause-goes_on g c = off_goes c.args.self.now c.self.inside.kfs c.self.inside.down (calls.Mkdir c.args.path.now) c.self.view_is c.if-is_some.ensures
+returns-then-is_some-clause-goes_on g c = off_goes c.args.self.now c.self.inside.kfs c.self.inside.files.opens c.self.inside.down (calls.Mkdir c.args.path.now) c.self.view_is c.if-is_some.ensures
 
 pub returns-then-is_some-clause-down : goal.returns-then-is_some-clause-down
-returns-then-is_some-clause-down g c = off_keeps c.args.self.now c.self.inside.kfs c.self.inside.down c.self.view_is c.if-is_some.ensures
+returns-then-is_some-clause-down g c = off_keeps c.args.self.now c.self.inside.kfs c.self.inside.files.opens c.self.inside.down c.self.view_is c.if-is_some.ensures
 
 pub returns-then-is_some-clause-age : goal.returns-then-is_some-clause-age
 returns-then-is_some-clause-age g c = aged_none _
 
 pub make-requires : goal.make-requires
-make-requires g c = age_in c.args.self.now c.self.inside.kfs c.self.inside.down c.self.view_is c.requires
+make-requires g c = age_in c.args.self.now c.self.inside.kfs c.self.inside.files.opens c.self.inside.down c.self.view_is c.requires
 
 pub invariant_of-self-in-Err : goal.invariant_of-self-in-Err
-invariant_of-self-in-Err g c = λ none. mkdir_awake (run_in c.self.inside.kfs) (run_in c.make.new.kfs) _ c.self.inside.down c.in-Err.fault (c.self.invariant (none_of c.self.inside.down c.if-is_some.ensures)) c.in-Err.ensures.does (sym c.refuse.ensures.down ∙ none)
+invariant_of-self-in-Err g c = λ none. add_awake (run_in c.self.inside.kfs) (run_in c.make.new.kfs) 1 _ c.self.inside.down c.in-Err.fault (c.self.invariant (none_of c.self.inside.down c.if-is_some.ensures)) c.in-Err.ensures.does (sym c.refuse.ensures.down ∙ none)
 
 pub returns-in-Err-clause-goes_on : goal.returns-in-Err-clause-goes_on
-returns-in-Err-clause-goes_on g c = mkdir_not_made c.args.self.now c.self.inside.kfs c.make.new.kfs c.self.inside.down c.self.view_is (none_of c.self.inside.down c.if-is_some.ensures) c.requires c.in-Err.ensures.keys c.in-Err.ensures.pages c.args.path.now c.refuse.result c.in-Err.fault c.refuse.new.down c.in-Err.ensures.does c.in-Err.ensures.same_charge c.refuse.ensures.reply c.refuse.ensures.down
+returns-in-Err-clause-goes_on g c = mkdir_not_made c.args.self.now c.self.inside.kfs c.make.new.kfs c.self.inside.files.opens c.self.inside.down c.self.view_is (none_of c.self.inside.down c.if-is_some.ensures) c.requires c.in-Err.ensures.keys c.in-Err.ensures.pages c.in-Err.ensures.chunks c.args.path.now c.refuse.result c.in-Err.fault c.refuse.new.down c.in-Err.ensures.does c.in-Err.ensures.same_charge c.refuse.ensures.reply c.refuse.ensures.down
 
 pub returns-in-Err-clause-counts : goal.returns-in-Err-clause-counts
-returns-in-Err-clause-counts g c = counts_by c.args.self.now c.self.inside.kfs c.self.inside.down c.refuse.result c.in-Err.fault c.make.new.kfs.running.run.machine c.self.view_is c.refuse.ensures.reply (mkdir_counts (run_in c.self.inside.kfs) (run_in c.make.new.kfs) _ c.in-Err.fault (c.self.invariant (none_of c.self.inside.down c.if-is_some.ensures)) c.in-Err.ensures.does)
+returns-in-Err-clause-counts g c = counts_by c.args.self.now c.self.inside.kfs c.self.inside.files.opens c.self.inside.down c.refuse.result c.in-Err.fault c.make.new.kfs.running.run.machine c.self.view_is c.refuse.ensures.reply (add_counts (run_in c.self.inside.kfs) (run_in c.make.new.kfs) 1 _ c.in-Err.fault (c.self.invariant (none_of c.self.inside.down c.if-is_some.ensures)) c.in-Err.ensures.does)
 
 pub returns-in-Err-clause-down : goal.returns-in-Err-clause-down
-returns-in-Err-clause-down g c = keeps_by c.args.self.now c.self.inside.kfs c.make.new.kfs c.self.inside.down c.refuse.new.down c.refuse.result c.in-Err.fault c.self.view_is (none_of c.self.inside.down c.if-is_some.ensures) c.refuse.ensures.reply c.refuse.ensures.down
+returns-in-Err-clause-down g c = keeps_by c.args.self.now c.self.inside.kfs c.make.new.kfs c.self.inside.files.opens c.self.inside.down c.refuse.new.down c.refuse.result c.in-Err.fault c.self.view_is (none_of c.self.inside.down c.if-is_some.ensures) c.refuse.ensures.reply c.refuse.ensures.down
 
 pub returns-in-Err-clause-age : goal.returns-in-Err-clause-age
-returns-in-Err-clause-age g c = aged_by c.args.self.now c.self.inside.kfs c.make.new.kfs c.self.inside.down (2 ^ 16) (omega arith) c.self.view_is c.in-Err.ensures.age
+returns-in-Err-clause-age g c = aged_by c.args.self.now c.self.inside.kfs c.make.new.kfs c.self.inside.files.opens c.self.inside.down (2 ^ 16) (omega arith) c.self.view_is c.in-Err.ensures.age
 
 pub invariant_of-self : goal.invariant_of-self
-invariant_of-self g c = λ none. ap (λ (r : Run). r.machine.up) c.in-Ok.ensures.does.2 ∙ (made_same (run_in c.self.inside.kfs) (parent_of c.in-Ok.ensures.does.0) c.in-Ok.ensures.does.0.name).up ∙ c.self.invariant none
+invariant_of-self g c = λ none. ap (λ (r : Run). r.machine.up) c.in-Ok.ensures.does.2 ∙ (added_same (run_in c.self.inside.kfs) 1 (parent_of c.in-Ok.ensures.does.0) c.in-Ok.ensures.does.0.name).up ∙ c.self.invariant none
 
 pub returns-in-Ok-clause-goes_on : goal.returns-in-Ok-clause-goes_on
-returns-in-Ok-clause-goes_on g c = mkdir_answered c.args.self.now c.self.inside.kfs c.make.new.kfs c.self.inside.down c.self.view_is (none_of c.self.inside.down c.if-is_some.ensures) c.requires c.in-Ok.ensures.keys c.in-Ok.ensures.pages c.args.path.now c.in-Ok.ensures.does.0 c.in-Ok.ensures.does.1 c.in-Ok.ensures.does.2 c.in-Ok.ensures.charge
+returns-in-Ok-clause-goes_on g c = mkdir_answered c.args.self.now c.self.inside.kfs c.make.new.kfs c.self.inside.files.opens c.self.inside.down c.self.view_is (none_of c.self.inside.down c.if-is_some.ensures) c.requires c.in-Ok.ensures.keys c.in-Ok.ensures.pages c.in-Ok.ensures.chunks c.args.path.now c.in-Ok.ensures.does.0 c.in-Ok.ensures.does.1 c.in-Ok.ensures.does.2 c.in-Ok.ensures.charge
 
 pub returns-in-Ok-clause-counts : goal.returns-in-Ok-clause-counts
-returns-in-Ok-clause-counts g c = counts_same c.args.self.now c.self.inside.kfs c.self.inside.down c.make.new.kfs.running.run.machine c.self.view_is (ap (λ (r : Run). r.machine.cuts) c.in-Ok.ensures.does.2 ∙ (made_same (run_in c.self.inside.kfs) (parent_of c.in-Ok.ensures.does.0) c.in-Ok.ensures.does.0.name).cuts) (ap (λ (r : Run). r.machine.faults) c.in-Ok.ensures.does.2 ∙ (made_same (run_in c.self.inside.kfs) (parent_of c.in-Ok.ensures.does.0) c.in-Ok.ensures.does.0.name).faults)
+returns-in-Ok-clause-counts g c = counts_same c.args.self.now c.self.inside.kfs c.self.inside.files.opens c.self.inside.down c.make.new.kfs.running.run.machine c.self.view_is (ap (λ (r : Run). r.machine.cuts) c.in-Ok.ensures.does.2 ∙ (added_same (run_in c.self.inside.kfs) 1 (parent_of c.in-Ok.ensures.does.0) c.in-Ok.ensures.does.0.name).cuts) (ap (λ (r : Run). r.machine.faults) c.in-Ok.ensures.does.2 ∙ (added_same (run_in c.self.inside.kfs) 1 (parent_of c.in-Ok.ensures.does.0) c.in-Ok.ensures.does.0.name).faults)
 
 pub returns-in-Ok-clause-down : goal.returns-in-Ok-clause-down
-returns-in-Ok-clause-down g c = none_kept c.args.self.now c.self.inside.kfs c.self.inside.down c.self.view_is (none_of c.self.inside.down c.if-is_some.ensures)
+returns-in-Ok-clause-down g c = none_kept c.args.self.now c.self.inside.kfs c.self.inside.files.opens c.self.inside.down c.self.view_is (none_of c.self.inside.down c.if-is_some.ensures)
 
 pub returns-in-Ok-clause-age : goal.returns-in-Ok-clause-age
-returns-in-Ok-clause-age g c = aged_by c.args.self.now c.self.inside.kfs c.make.new.kfs c.self.inside.down (2 ^ 16) (omega arith) c.self.view_is c.in-Ok.ensures.age
+returns-in-Ok-clause-age g c = aged_by c.args.self.now c.self.inside.kfs c.make.new.kfs c.self.inside.files.opens c.self.inside.down (2 ^ 16) (omega arith) c.self.view_is c.in-Ok.ensures.age

@@ -1,4 +1,4 @@
-use Rattle.std.proofs.Common.{max, ◌∙◌, ap, sym}
+use Rattle.std.proofs.Common.{max, ◌∙◌, ap}
 use Rattle.kv_device.specs.Machine.{with_most_cuts}
 use Rattle.kfs_tx.specs.Run.{Run}
 use Rattle.kfs_posix.specs.Book.{SessionState}
@@ -9,7 +9,7 @@ pub invariant_of-self : goal.invariant_of-self
 invariant_of-self g c = λ none. ap (λ (r : Run). r.machine.up) c.plan_cut.ensures.planned ∙ c.self.invariant none
 
 pub returns-clause-goes_on : goal.returns-clause-goes_on
-returns-clause-goes_on g c = plan_by c.args.self.now c.self.inside.kfs c.plan_cut.new.self c.self.inside.down c.args.n c.args.how c.self.view_is c.plan_cut.ensures.rest c.plan_cut.ensures.planned
+returns-clause-goes_on g c = plan_by c.args.self.now c.self.inside.kfs c.plan_cut.new.self c.self.inside.files.opens c.self.inside.down c.args.n c.args.how c.self.view_is c.plan_cut.ensures.rest c.plan_cut.ensures.planned
 
 pub returns-clause-planned : goal.returns-clause-planned
 returns-clause-planned g c = ap (λ (r : Run). r.machine) c.plan_cut.ensures.planned ∙ ap (λ (s : SessionState). with_most_cuts s.book.run.machine) c.self.view_is

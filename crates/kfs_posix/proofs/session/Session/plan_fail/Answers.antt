@@ -1,4 +1,4 @@
-use Rattle.std.proofs.Common.{max, ◌≤◌, ◌+◌, ◌-◌, ◌^◌, ◌∙◌, ap, min, subst, sym}
+use Rattle.std.proofs.Common.{max, ◌≤◌, ◌+◌, ◌-◌, ◌^◌, ◌∙◌, ap, min, subst}
 use Rattle.kv_device.specs.Machine.{with_most_faults}
 use Rattle.kfs_tx.specs.Run.{Run}
 use Rattle.kfs_posix.specs.Book.{SessionState}
@@ -9,7 +9,7 @@ pub invariant_of-self : goal.invariant_of-self
 invariant_of-self g c = λ none. ap (λ (r : Run). r.machine.up) c.plan_fail.ensures.planned ∙ c.self.invariant none
 
 pub returns-clause-goes_on : goal.returns-clause-goes_on
-returns-clause-goes_on g c = fail_by c.args.self.now c.self.inside.kfs c.plan_fail.new.self c.self.inside.down c.args.kind c.args.n c.plan_fail.new.self.running.run.machine.most_faults c.self.view_is c.plan_fail.ensures.rest c.plan_fail.ensures.planned c.plan_fail.ensures.fewest c.plan_fail.ensures.most
+returns-clause-goes_on g c = fail_by c.args.self.now c.self.inside.kfs c.plan_fail.new.self c.self.inside.files.opens c.self.inside.down c.args.kind c.args.n c.plan_fail.new.self.running.run.machine.most_faults c.self.view_is c.plan_fail.ensures.rest c.plan_fail.ensures.planned c.plan_fail.ensures.fewest c.plan_fail.ensures.most
 
 pub returns-clause-planned : goal.returns-clause-planned
 returns-clause-planned g c = ap (λ (r : Run). r.machine) c.plan_fail.ensures.planned ∙ ap (λ (s : SessionState). with_most_faults s.book.run.machine c.plan_fail.new.self.running.run.machine.most_faults) c.self.view_is

@@ -1,0 +1,153 @@
+-- A new node as an event of a life, whichever call makes it.
+use Rattle.std.proofs.Common.{◌≡◌, ℕ, ◌<◌, ◌≤◌, ◌+◌, ◌^◌, ◌&&◌, inl, inr, true, false, cond, Bool, refl, sym, ◌∙◌, ap, subst, arith, List, [], ◌∷◌, ◌++◌, length, Some, None, nat_lt, nat_le}
+use Rattle.std.specs.Ordering.{nat_cmp}
+use Rattle.std.specs.FinMap.{find}
+use Rattle.std.proofs.lemmas.Bool.Decides.{nat_tests}
+use Rattle.kv_device.specs.declared.fault.DeviceFault.{DeviceFault}
+use Rattle.kfs_objects.specs.Keys.{inode_key, entry_key}
+use Rattle.kfs_objects.specs.Records.{inode_value, entry_value}
+use Rattle.kfs_objects.proofs.KeyLaws.{length_be64}
+use Rattle.kfs_path.specs.declared.call.Call.{Call}
+use Rattle.kfs_path.specs.declared.call.Cause.{Cause}
+use Rattle.kfs_path.specs.declared.call.Reply.{Reply}
+use Rattle.kfs_path.specs.declared.call.Reply.TheVariants as replies
+use Rattle.kfs_model.specs.declared.Node.{Node}
+use Rattle.kfs_model.specs.declared.Line.TheVariants as lines
+use Rattle.kfs_model.specs.declared.Answer.TheVariants as answers
+use Rattle.kfs_model.specs.Tree.{Place, Tree, charge, chunks, chunks_of, with_new, has_room}
+use Rattle.kfs_model.specs.Step.{World, After, step}
+use Rattle.kfs_model.specs.Change.{weight, is_boundary}
+use Rattle.kfs_model.specs.Life.{Live, can_fail}
+use Rattle.kfs_shows.specs.Shows.{inode_of}
+use Rattle.kfs_shows.proofs.Making.{IsFreePlace, IsFresh}
+use Rattle.kfs_tx.specs.Run.{Run, SameBounds, Fallen, seen, committed, counted, with_super, is_full}
+use Rattle.kfs_tx.proofs.Seeing.{ready_put, keys_put}
+use Rattle.kfs_tx.proofs.Falling.{put_falls, change_falls}
+use Rattle.kfs_core.specs.Flat.{Where}
+use Rattle.kfs_core.specs.Making.{parent_of, with_inode, with_entry, added, AddFault}
+use Rattle.kfs_core.proofs.Adding.{free_place, entry_ready, entry_keys, new_is_tree, new_shows, new_chunks, new_charge}
+use Rattle.kfs_core.proofs.Ways.{IsSpot}
+use Rattle.kfs_posix.specs.Opens.{Opens, desk_of}
+use Rattle.kfs_posix.specs.Holding.{Holds}
+use Rattle.kfs_posix.specs.Book.{Book, limits_of, cause_of}
+use Rattle.kfs_posix.specs.Showing.{ShowsLive, IsSaved, GoesOn}
+use Rattle.kfs_posix.proofs.Changing.{IsPut, change_shown, sees, to_save}
+use Rattle.kfs_posix.proofs.Going.{Fell, spare, as_before, as_after, change_goes_at, fall_goes}
+use Rattle.kfs_posix.proofs.Calls.{stands_of, room_for}
+
+keeps : (r : Run) (b : Bool) → SameBounds r.machine (cond b (committed r) r).machine × ((cond b (committed r) r).machine.cuts ≡ r.machine.cuts) × ((cond b (committed r) r).machine.faults ≡ r.machine.faults)
+keeps r true = (record { most_cuts = refl; most_faults = refl; room_keys = refl; room_pages = refl }, refl, refl)
+keeps r false = (record { most_cuts = refl; most_faults = refl; room_keys = refl; room_pages = refl }, refl, refl)
+
+both_true : (a b : Bool) → (a && b) ≡ true → (a ≡ true) × (b ≡ true)
+both_true true b e = (refl, e)
+both_true false b e = absurd (cc)
+
+small_value : (n : ℕ) (key : List ℕ) → (nat_lt 128 (length (entry_value n)) && nat_lt 32 (length key)) ≡ false
+small_value n key = let h = length_be64 n in let f : nat_lt 128 (length (entry_value n)) ≡ false = grind (arith, nat_tests) in ap (λ b. b && nat_lt 32 (length key)) f
+
+small_inode : (kind : ℕ) (key : List ℕ) → (nat_lt 128 (length (inode_value kind 0)) && nat_lt 32 (length key)) ≡ false
+small_inode kind key = let h = length_be64 0 in let f : nat_lt 128 (length (inode_value kind 0)) ≡ false = grind (arith, nat_tests) in ap (λ b. b && nat_lt 32 (length key)) f
+
+-- what the call does to the tree that is shown: the new node lies where the walk over the objects ended
+pub record Adds (old : Book) (node : Node) (call : Call) (reply : Reply) (files : Opens) (d : ℕ) (w : Where) (live : Live) : Type 0 where
+  pub place : Place
+  pub spot : IsSpot live.world.tree place w
+  pub nothing : w.node ≡ None
+  pub step_is : step (limits_of old) d live.world call ≡ record { world = record { tree = with_new live.world.tree place node; desk = desk_of files }; reply = reply }
+  pub weighs : weight live.world call (record { world = record { tree = with_new live.world.tree place node; desk = desk_of files }; reply = reply }) ≡ Some 4
+  pub holds : Holds files (with_new live.world.tree place node)
+  pub fits : old.charge + 2 ≤ old.keys
+
+module _ (old : Book) (kind : ℕ) (node : Node) (fresh : IsFresh node) (value_is : inode_of node ≡ inode_value kind 0) (none : chunks_of node ≡ 0) (w : Where)
+    (low : old.run.next + 1 < 2 ^ 63) (count : old.run.changes + 1 < 2 ^ 63) where
+  abbrev r : Run
+  r = with_entry old.run kind (parent_of w) w.name
+
+  record Planned (tree : Tree) : Type 0 where
+    put : IsPut old r tree 4 (old.run.next + 1)
+    charged : old.charge + 2 ≡ charge tree
+    chunked : old.chunks ≡ chunks tree
+
+  planned_at : old.charge + 2 ≤ old.keys → (live : Live) → ShowsLive old live → (q : Place) → IsFreePlace live.world.tree q w.name (parent_of w) → Planned (with_new live.world.tree (q ++ w.name ∷ []) node)
+  planned_at fits live sh q free =
+      let t = live.world.tree in
+      let stands = stands_of old live sh in
+      let charge_is = new_charge old.run kind (parent_of w) w.name sh.ready t stands sh.next q free node fresh value_is none in
+      let chunks_is = new_chunks old.run kind (parent_of w) w.name sh.ready t stands sh.next q free node fresh value_is none in
+      record {
+        put = record {
+          ready = entry_ready old.run kind (parent_of w) w.name sh.ready;
+          tree = new_is_tree old.run kind (parent_of w) w.name sh.ready t stands sh.next q free node fresh value_is none;
+          shows = new_shows old.run kind (parent_of w) w.name sh.ready t stands sh.next q free node fresh value_is none;
+          low = let h = sh.next in omega arith;
+          few_changes = count;
+          next_is = ap (λ n. n + 1) sh.next;
+          changes = refl;
+          since = refl;
+          weight = refl;
+          stable = refl;
+          bounds = record { most_cuts = refl; most_faults = refl; room_keys = refl; room_pages = refl };
+          few = let a = entry_keys old.run kind (parent_of w) w.name sh.ready in let c = sh.few in omega arith;
+          room =
+              let h = both_true (nat_le (charge t) old.keys) (nat_le (chunks t) old.pages) sh.room in
+              let c = sh.charged in
+              let f : nat_le (charge (with_new t (q ++ w.name ∷ []) node)) old.keys ≡ true = grind (arith, nat_tests) in
+              λ i. (f i && (ap (λ n. nat_le n old.pages) chunks_is ∙ h.1) i);
+        };
+        charged = ap (λ n. n + 2) sh.charged ∙ sym charge_is;
+        chunked = sh.chunked ∙ sym chunks_is;
+      }
+
+  planned : (call : Call) (reply : Reply) (files : Opens) (d : ℕ) (live : Live) → ShowsLive old live → (adds : Adds old node call reply files d w live) → Planned (with_new live.world.tree adds.place node)
+  planned call reply files d live sh adds =
+      let at = free_place live.world.tree adds.place w adds.spot adds.nothing in
+      subst (λ place. Planned (with_new live.world.tree place node)) (sym at.1) (planned_at adds.fits live sh at.0 at.2)
+
+  pub add_goes : (call : Call) (reply : Reply) (files : Opens) (d : ℕ) → find nat_cmp d old.files.files ≡ None → old.down ≡ None → ((live : Live) → ShowsLive old live → Adds old node call reply files d w live)
+      → GoesOn old (lines.Call call) (answers.Reply reply) (record old { run = added old.run kind (parent_of w) w.name; charge = old.charge + 2; files = files })
+  add_goes call reply files d free up adds =
+      let k = keeps (counted r 4 (old.run.next + 1)) (is_full (old.run.since + 1) (old.run.weight + 4)) in
+      change_goes_at old (record old { run = added old.run kind (parent_of w) w.name; charge = old.charge + 2; files = files }) call reply 4 d free up k.1 k.2
+      (record { most_cuts = k.0.most_cuts; most_faults = k.0.most_faults; room_keys = k.0.room_keys; room_pages = k.0.room_pages })
+      (λ live sh.
+      let a = adds live sh in
+      let plan = planned call reply files d live sh a in
+      let tree = with_new live.world.tree a.place node in
+      (record { tree = tree; desk = desk_of files }, a.step_is, a.weighs, change_shown old live sh r tree 4 (old.run.next + 1) (old.charge + 2) old.chunks plan.put plan.charged plan.chunked files a.holds))
+
+  pub add_falls : (new : Book) (call : Call) (reply : Reply) (files : Opens) (fault : DeviceFault) → old.down ≡ None → new.down ≡ Some (cause_of fault) → limits_of new ≡ limits_of old → ((world : World) (cause : Cause) → can_fail world call cause ≡ true)
+      → ((live : Live) → ShowsLive old live → Adds old node call reply files (spare old) w live)
+      → AddFault old.run kind (parent_of w) w.name fault new.run.machine → GoesOn old (lines.Call call) (answers.Reply (replies.Down (cause_of fault))) new
+  add_falls new call reply files fault up down same can adds h = fall_goes old new call fault up down same (λ live sh. fell live sh (adds live sh) h)
+    where
+      before : (live : Live) → ShowsLive old live → Fallen old.run.machine fault old.run.machine.stable new.run.machine → Fell old new live call fault
+      before live sh a = record { stands = old.run.machine.stable; fallen = a; stood = as_before sh.saved; can = λ cause e. can live.world cause }
+
+      fell : (live : Live) → ShowsLive old live → Adds old node call reply files (spare old) w live → AddFault old.run kind (parent_of w) w.name fault new.run.machine → Fell old new live call fault
+      fell live sh adds (inl a) = before live sh (put_falls old.run (inode_key old.run.next) (inode_value kind 0) fault new.run.machine sh.ready (let f = sh.few in let l = sh.light in omega arith) (small_inode kind (inode_key old.run.next)) a)
+      fell live sh adds (inr (inl a)) =
+          let ready1 = ready_put old.run (inode_key old.run.next) (inode_value kind 0) sh.ready in
+          let few1 = keys_put old.run (inode_key old.run.next) (inode_value kind 0) sh.ready in
+          let f = put_falls (with_inode old.run kind) (entry_key (parent_of w) w.name) (entry_value old.run.next) fault new.run.machine ready1 (let f = sh.few in let l = sh.light in omega arith) (small_value old.run.next (entry_key (parent_of w) w.name)) a in
+          before live sh (record { cause = f.cause; stable = f.stable; bounds = record { most_cuts = f.bounds.most_cuts; most_faults = f.bounds.most_faults; room_keys = f.bounds.room_keys; room_pages = f.bounds.room_pages } })
+      fell live sh adds (inr (inr a)) =
+          let plan = planned call reply files (spare old) live sh adds in
+          let tree = with_new live.world.tree adds.place node in
+          let put = plan.put in
+          let shows = sees old live sh r tree 4 (old.run.next + 1) (old.charge + 2) old.chunks put plan.charged plan.chunked files adds.holds in
+          let saved = to_save old live sh r tree 4 (old.run.next + 1) (old.charge + 2) old.chunks put plan.charged plan.chunked files adds.holds in
+          let room = room_for (seen (with_super r (old.run.next + 1))) tree (live.past.count + 1) (limits_of old) r.machine put.tree shows (let h = put.low in omega arith) put.room sh.keys sh.pages in
+          elim (change_falls r 4 (old.run.next + 1) fault new.run.machine put.ready (let f = put.few in let l = sh.light in omega arith) room a) [
+            | inl f ↦ before live sh (record { cause = f.cause; stable = f.stable; bounds = record { most_cuts = f.bounds.most_cuts; most_faults = f.bounds.most_faults; room_keys = f.bounds.room_keys; room_pages = f.bounds.room_pages } })
+            | inr x ↦
+                let f = x.1 in
+                record {
+                  stands = seen (with_super r (old.run.next + 1));
+                  fallen = record { cause = f.cause; stable = f.stable; bounds = record { most_cuts = f.bounds.most_cuts; most_faults = f.bounds.most_faults; room_keys = f.bounds.room_keys; room_pages = f.bounds.room_pages } };
+                  stood = as_after 4 (ap (weight live.world call) adds.step_is ∙ adds.weighs)
+                      (ap (λ (a : After). is_boundary live.since call a.reply (Some 4)) adds.step_is ∙ (λ i. is_full (sym sh.changes i + 1) (sym sh.weight i + 4)) ∙ x.0)
+                      (subst (λ t. IsSaved (limits_of old) (seen (with_super r (old.run.next + 1))) t (live.past.count + 1)) (ap (λ (a : After). a.world.tree) (sym adds.step_is)) saved);
+                  can = λ cause e. can live.world cause;
+                }
+          ]

@@ -1,0 +1,81 @@
+-- `rename` of a session, by what it did.
+use Rattle.std.proofs.Common.{◌≡◌, ℕ, ◌<◌, ◌+◌, ◌-◌, ◌^◌, inl, inr, true, false, refl, sym, ◌∙◌, ap, subst, List, Option, Some, None, Result, Ok, Err}
+use Rattle.std.specs.Option.{option_and_then}
+use Rattle.kv_device.specs.Machine.{Machine}
+use Rattle.kfs_path.specs.declared.call.Call.{Call}
+use Rattle.kfs_path.specs.declared.call.Call.TheVariants as calls
+use Rattle.kfs_path.specs.declared.call.Cause.{Cause}
+use Rattle.kfs_path.specs.declared.call.Errno.{Errno}
+use Rattle.kfs_path.specs.declared.call.Reply.{Reply}
+use Rattle.kfs_path.specs.declared.call.Reply.TheVariants as replies
+use Rattle.kfs_model.specs.Ladder.{◌>>=◌}
+use Rattle.kfs_model.specs.Step.{Route, syntax}
+use Rattle.kfs_model.specs.declared.Line.TheVariants as lines
+use Rattle.kfs_model.specs.declared.Answer.TheVariants as answers
+use Rattle.kfs_tx.specs.Run.{Run, age_of, seen, one_change}
+use Rattle.kfs_core.specs.declared.fault.CoreFault.{CoreFault}
+use Rattle.kfs_core.specs.declared.fault.CoreFault.TheVariants.{No, Device}
+use Rattle.kfs_core.specs.declared.renaming.Move.{Move}
+use Rattle.kfs_core.specs.Core.{KfsState, run_in}
+use Rattle.kfs_core.specs.Removing.{is_open_in}
+use Rattle.kfs_core.specs.Renaming.{MovesTo, MoveFault, RenameFails, with_moved, chunks_replaced, keys_replaced, replaced_node, rename_in}
+use Rattle.kfs_posix.specs.Opens.{Opens, nodes_of}
+use Rattle.kfs_posix.specs.Removing.{open_now}
+use Rattle.kfs_posix.specs.Renaming.{Renamed, NotRenamed, rename_by, without_replaced}
+use Rattle.kfs_posix.specs.Book.{Book, SessionState, state_of, book_of, running_in, cause_of}
+use Rattle.kfs_posix.specs.Answering.{refusal, down_after}
+use Rattle.kfs_posix.specs.Showing.{GoesOn}
+use Rattle.kfs_posix.proofs.Fault.{caused_counts, alone_caused}
+use Rattle.kfs_posix.proofs.Events.{Happens, same_machine, answered, failed, low_count}
+use Rattle.kfs_posix.proofs.Planned.{changed_same}
+use Rattle.kfs_posix.proofs.UnnameAnswers.{done_plain}
+use Rattle.kfs_posix.proofs.RenameGoes.{moved_same, rename_caused, rename_rest, rename_no, rename_goes, rename_falls, rename_unread}
+
+-- what the call failed with, by the paths' texts
+pub rename_not_done : (old new : KfsState) (o : Opens) (p q : List ℕ) (from to : Route) (judge : Route → Route → Result (Option Move) Errno) (nodes : List (List ℕ)) (fault : CoreFault) → syntax p ≡ Ok from → syntax q ≡ Ok to → nodes ≡ nodes_of o
+    → RenameFails old (judge from to) (is_open_in nodes) fault new → NotRenamed old o (syntax p >>= λ f. syntax q >>= λ g. judge f g) fault new o
+rename_not_done old new o p q from to judge nodes (No e) a b is (judged, same) = ((λ i. a i >>= λ f. b i >>= λ g. judge f g) ∙ judged, same, refl)
+rename_not_done old new o p q from to judge nodes (Device f) a b is (stays, inl unread) = (stays, refl, inl unread)
+rename_not_done old new o p q from to judge nodes (Device fault) a b is (stays, inr (move, judged, fell)) =
+    (stays, refl, inr (move, (λ i. a i >>= λ f. b i >>= λ g. judge f g) ∙ judged, subst (λ ns. MoveFault (run_in old) move (is_open_in ns) fault (run_in new).machine) is fell))
+
+module _ (old : SessionState) (k0 k1 : KfsState) (o o1 : Opens) (d : Option Cause) (is : state_of k0 o d ≡ old) (up : d ≡ None) (awake : (run_in k0).machine.up ≡ true) (age : age_of (running_in old) < 2 ^ 63 - 2 ^ 40) (from to : List ℕ) where
+  abbrev b : Book
+  b = book_of k0 o d
+
+  abbrev call : Call
+  call = calls.Rename from to
+
+  abbrev judge : Result (Option Move) Errno
+  judge = rename_by (seen (run_in k0)) from to
+
+  pub rename_answered : Renamed k0 o judge k1 o1 → Happens old call replies.Done k1 o1 d
+  rename_answered h = by h.move h.judge h.effect h.files_are
+    where
+      by : (x : Option Move) → judge ≡ Ok x → MovesTo k0 x (open_now o) k1 → o1 ≡ without_replaced o (option_and_then replaced_node x) → Happens old call replies.Done k1 o1 d
+      by None judged same files =
+          answered old k0 k1 o o1 d is up awake call replies.Done done_plain (run_in k0) k0.charge k0.chunks o (same_machine (run_in k0))
+          (ap run_in same) (ap (λ (k : KfsState). k.charge) same) (ap (λ (k : KfsState). k.chunks) same) (ap (λ (k : KfsState). k.keys) same) (ap (λ (k : KfsState). k.pages) same) files
+          (rename_rest b from to up judged)
+      by (Some move) judged (moves, frees) files =
+          let n = 4 + chunks_replaced move.replaced (open_now o) in
+          answered old k0 k1 o o1 d is up awake call replies.Done done_plain (one_change (with_moved moves.mid move) n moves.mid.next) (k0.charge - keys_replaced move.replaced (open_now o)) (k0.chunks - chunks_replaced move.replaced (open_now o))
+          (without_replaced o (replaced_node move))
+          (changed_same (run_in k0) (with_moved moves.mid move) (moved_same (run_in k0) move (open_now o) moves.mid moves.replaces) n moves.mid.next)
+          moves.change (ap (λ (k : KfsState). k.charge) frees) (ap (λ (k : KfsState). k.chunks) frees) (ap (λ (k : KfsState). k.keys) frees) (ap (λ (k : KfsState). k.pages) frees) files
+          (rename_goes b from to up move judged (low_count old k0 o d is age) moves.mid moves.replaces)
+
+  pub rename_failed : (fault : CoreFault) (reply : Reply) (d1 : Option Cause) → NotRenamed k0 o judge fault k1 o1 → reply ≡ refusal fault → d1 ≡ down_after d fault → Happens old call reply k1 o1 d1
+  rename_failed (No e) reply d1 h reply_is down =
+      let machine = ap (λ (k : KfsState). (run_in k).machine) h.1 in
+      failed old k0 k1 o o1 d is up awake call (No e) reply d1 reply_is down (ap (λ (k : KfsState). k.charge) h.1) (ap (λ (k : KfsState). k.chunks) h.1) (ap (λ (k : KfsState). k.keys) h.1) (ap (λ (k : KfsState). k.pages) h.1) h.2
+      (ap (λ (m : Machine). m.cuts) machine, ap (λ (m : Machine). m.faults) machine) (λ none. ap (λ (m : Machine). m.up) machine ∙ awake)
+      (subst (λ (r : Run). GoesOn b (lines.Call call) (answers.Reply (replies.Err e)) (record b { run = r })) (sym (ap run_in h.1)) (rename_no b from to up e h.0))
+  rename_failed (Device f) reply d1 (stays, files, inl unread) reply_is down =
+      failed old k0 k1 o o1 d is up awake call (Device f) reply d1 reply_is down (ap (λ (k : KfsState). k.charge) stays) (ap (λ (k : KfsState). k.chunks) stays) (ap (λ (k : KfsState). k.keys) stays) (ap (λ (k : KfsState). k.pages) stays) files
+      (caused_counts (run_in k0).machine f (run_in k1).machine awake (alone_caused (run_in k0).machine f (run_in k1).machine unread.1)) (λ none. absurd (cc))
+      (rename_unread b from to up (record b { run = run_in k1; down = Some (cause_of f) }) f refl refl unread)
+  rename_failed (Device f) reply d1 (stays, files, inr (move, judged, fell)) reply_is down =
+      failed old k0 k1 o o1 d is up awake call (Device f) reply d1 reply_is down (ap (λ (k : KfsState). k.charge) stays) (ap (λ (k : KfsState). k.chunks) stays) (ap (λ (k : KfsState). k.keys) stays) (ap (λ (k : KfsState). k.pages) stays) files
+      (caused_counts (run_in k0).machine f (run_in k1).machine awake (rename_caused (run_in k0) move (open_now o) f (run_in k1).machine fell)) (λ none. absurd (cc))
+      (rename_falls b from to up move judged (low_count old k0 o d is age) (record b { run = run_in k1; down = Some (cause_of f) }) f refl refl fell)

@@ -1,0 +1,130 @@
+-- Calls on the open files alone, as events of a life.
+use Rattle.std.proofs.Common.{◌≡◌, ℕ, ◌+◌, true, false, cond, Bool, refl, sym, ◌∙◌, ap, subst, arith, Option, Some, None, Result, Ok, length, ℤ, pos, ◌+ℤ◌, ◌^◌, nat_lt, nat_le}
+use Rattle.std.proofs.lemmas.Bool.Decides.{nat_tests}
+use Rattle.kv_device.specs.Machine.{Machine}
+use Rattle.kfs_path.specs.declared.call.Call.{Call}
+use Rattle.kfs_path.specs.declared.call.Call.TheVariants as calls
+use Rattle.kfs_path.specs.declared.call.Cause.{Cause}
+use Rattle.kfs_path.specs.declared.call.Errno.{Errno}
+use Rattle.kfs_path.specs.declared.call.Errno.TheVariants.{EBADF, EMFILE, EINVAL, EOVERFLOW}
+use Rattle.kfs_path.specs.declared.call.Reply.{Reply}
+use Rattle.kfs_path.specs.declared.call.Reply.TheVariants as replies
+use Rattle.kfs_path.specs.declared.call.Whence.{Whence}
+use Rattle.kfs_model.specs.declared.Line.TheVariants as lines
+use Rattle.kfs_model.specs.declared.Answer.TheVariants as answers
+use Rattle.kfs_model.specs.Ladder.{◌>>=◌, ◌>>◌, ◌when◌}
+use Rattle.kfs_model.specs.Tree.{Tree, Limits}
+use Rattle.kfs_model.specs.Desk.{Desk, lowest_free}
+use Rattle.kfs_model.specs.Step.{World, step, or_else, is_negative, natural}
+use Rattle.kfs_model.specs.Change.{weight, commits, gone}
+use Rattle.kfs_core.specs.Core.{KfsState, run_in}
+use Rattle.kfs_posix.specs.declared.open_files.OpenFile.{OpenFile}
+use Rattle.kfs_posix.specs.Opens.{Opens, desk_of, open_at, with_descriptor, with_file, closed}
+use Rattle.kfs_posix.specs.Holding.{Holds}
+use Rattle.kfs_posix.specs.Turning.{Turn, turned, dup_in, lseek_in, fstat_in, base, at_offset}
+use Rattle.kfs_posix.specs.Book.{Book, SessionState, state_of, book_of, limits_of}
+use Rattle.kfs_posix.specs.Answering.{Counts, KeepsCause}
+use Rattle.kfs_posix.specs.Showing.{GoesOn}
+use Rattle.kfs_posix.proofs.Held.{world_in, after_in, dup_same, dup_holds, lseek_same, lseek_holds, fstat_same, fstat_files}
+use Rattle.kfs_posix.proofs.Going.{spare, spare_free, turn_goes}
+
+-- neither down nor off
+abbrev pub IsAnswer : Reply → Type 0
+IsAnswer (replies.Down cause) = ⊥
+IsAnswer replies.Off = ⊥
+IsAnswer reply = Unit {0}
+
+-- what a call does to a world, by what it does to the open files
+pub record Turns (o : Opens) (call : Call) (r : Result Turn Errno) : Type 0 where
+  pub step_is : (k : Limits) (d : ℕ) (t : Tree) → Holds o t → step k d (world_in t o) call ≡ after_in t (turned o r)
+  pub weighs : (w : World) (desk : Desk) (reply : Reply) → weight w call (record { world = record { tree = w.tree; desk = desk }; reply = reply }) ≡ None
+  pub quiet : (reply : Reply) → commits call reply ≡ false
+  pub holds : (t : Tree) → Holds o t → Holds (turned o r).files t
+  pub answers : IsAnswer (turned o r).reply
+
+pub dup_turns : (o : Opens) (fd : ℕ) → Turns o (calls.Dup fd) (dup_in o fd)
+dup_turns o fd = record {
+  step_is = λ k d t holds. dup_same t o fd;
+  weighs = λ w desk reply. refl;
+  quiet = λ reply. refl;
+  holds = λ t. dup_holds t o fd;
+  answers = by (open_at o fd) (lowest_free (desk_of o));
+}
+  where
+    by : (x : Option (ℕ × OpenFile)) (y : Option ℕ) → IsAnswer (turned o (or_else x EBADF >>= λ it. or_else y EMFILE >>= λ new. Ok (record { files = with_descriptor o new it.0; reply = replies.Number new }))).reply
+    by None y = tt
+    by (Some it) None = tt
+    by (Some it) (Some new) = tt
+
+pub lseek_turns : (o : Opens) (fd : ℕ) (whence : Whence) (offset : ℤ) → Turns o (calls.Lseek fd whence offset) (lseek_in o fd whence offset)
+lseek_turns o fd whence offset = record {
+  step_is = λ k d t holds. lseek_same t o fd whence offset holds;
+  weighs = λ w desk reply. refl;
+  quiet = λ reply. refl;
+  holds = λ t. lseek_holds t o fd whence offset;
+  answers = by (open_at o fd);
+}
+  where
+    tail : (it : ℕ × OpenFile) (to : ℤ) (a b : Bool) → IsAnswer (turned o ((EINVAL when a) >> ((EOVERFLOW when b) >> Ok (record { files = with_file o it.0 (at_offset it.1 (natural to)); reply = replies.Number (natural to) })))).reply
+    tail it to true b = tt
+    tail it to false true = tt
+    tail it to false false = tt
+
+    by : (x : Option (ℕ × OpenFile)) → IsAnswer (turned o (or_else x EBADF >>= λ it. (EINVAL when is_negative (pos (base it.1 whence) +ℤ offset)) >> ((EOVERFLOW when nat_le (2 ^ 63) (natural (pos (base it.1 whence) +ℤ offset)))
+        >> Ok (record { files = with_file o it.0 (at_offset it.1 (natural (pos (base it.1 whence) +ℤ offset))); reply = replies.Number (natural (pos (base it.1 whence) +ℤ offset)) })))).reply
+    by None = tt
+    by (Some it) = let to = pos (base it.1 whence) +ℤ offset in tail it to (is_negative to) (nat_le (2 ^ 63) (natural to))
+
+pub fstat_turns : (o : Opens) (fd : ℕ) → Turns o (calls.Fstat fd) (fstat_in o fd)
+fstat_turns o fd = record {
+  step_is = λ k d t holds. fstat_same t o fd holds;
+  weighs = λ w desk reply. refl;
+  quiet = λ reply. refl;
+  holds = λ t holds. subst (λ x. Holds x t) (sym (fstat_files o fd)) holds;
+  answers = by (open_at o fd);
+}
+  where
+    told : (f : OpenFile) (b : Bool) → IsAnswer (cond b (replies.File f.it.node f.length) (replies.Dir f.it.node))
+    told f true = tt
+    told f false = tt
+
+    by : (x : Option (ℕ × OpenFile)) → IsAnswer (turned o (or_else x EBADF >>= λ it. Ok (record { files = o; reply = cond it.1.file (replies.File it.1.it.node it.1.length) (replies.Dir it.1.it.node) }))).reply
+    by None = tt
+    by (Some it) = told it.1 it.1.file
+
+-- ---- of a session
+
+still_counts : (m : Machine) (reply : Reply) → IsAnswer reply → Counts m reply m
+still_counts m (replies.Down cause) h = absurd h
+still_counts m replies.Off h = absurd h
+still_counts m reply h = (refl, refl)
+
+still_up : (old new : Book) (reply : Reply) → IsAnswer reply → old.down ≡ None → new.down ≡ None → KeepsCause old reply new
+still_up old new (replies.Down cause) h a b = absurd h
+still_up old new replies.Off h a b = absurd h
+still_up old new reply h a b = (a, b)
+
+module _ (old : SessionState) (k0 : KfsState) (o o1 : Opens) (d : Option Cause) (is : state_of k0 o d ≡ old) (up : d ≡ None) (call : Call) (reply : Reply) (r : Result Turn Errno) (turns : Turns o call r) (done : record { files = o1; reply = reply } ≡ turned o r) where
+  abbrev b : Book
+  b = book_of k0 o d
+
+  pub turned_goes : GoesOn old.book (lines.Call call) (answers.Reply reply) (book_of k0 o1 d)
+  turned_goes =
+      let turn = turned o r in
+      let goes : GoesOn b (lines.Call call) (answers.Reply turn.reply) (record b { files = turn.files }) =
+      turn_goes b turn.files call turn.reply (spare b) (spare_free b) up (turns.quiet turn.reply) (λ live sh. (
+        (λ i. step (limits_of b) (spare b) (record { tree = live.world.tree; desk = sh.desk i }) call) ∙ turns.step_is (limits_of b) (spare b) live.world.tree sh.holds,
+        turns.weighs live.world (desk_of turn.files) turn.reply,
+        turns.holds live.world.tree sh.holds,
+      )) in
+      subst (λ (s : SessionState). GoesOn s.book (lines.Call call) (answers.Reply reply) (book_of k0 o1 d)) is
+      (subst (λ (x : Turn). GoesOn b (lines.Call call) (answers.Reply x.reply) (record b { files = x.files })) (sym done) goes)
+
+  is_answer : IsAnswer reply
+  is_answer = subst (λ (x : Turn). IsAnswer x.reply) (sym done) turns.answers
+
+  pub turned_counts : Counts old.book.run.machine reply (run_in k0).machine
+  turned_counts = subst (λ (s : SessionState). Counts s.book.run.machine reply (run_in k0).machine) is (still_counts (run_in k0).machine reply is_answer)
+
+  pub turned_keeps : KeepsCause old.book reply (book_of k0 o1 d)
+  turned_keeps = subst (λ (s : SessionState). KeepsCause s.book reply (book_of k0 o1 d)) is (still_up b (book_of k0 o1 d) reply is_answer up up)

@@ -1,0 +1,163 @@
+-- `write` and `pwrite` of a session, by what writing did.
+use Rattle.std.proofs.Common.{◌≡◌, ℕ, ◌<◌, ◌+◌, ◌-◌, ◌^◌, ◌==◌, ◌⊎◌, inl, inr, true, false, cond, max, refl, sym, ◌∙◌, ap, subst, arith, List, length, take, Option, Some, None, Result, Ok, Err, nat_lt, ℤ}
+use Rattle.kv_device.specs.declared.fault.DeviceFault.{DeviceFault}
+use Rattle.kv_device.specs.declared.fault.DeviceFault.TheVariants.{Memory}
+use Rattle.kv_device.specs.Machine.{Machine}
+use Rattle.kfs_path.specs.Pieces.{is_empty}
+use Rattle.kfs_path.specs.declared.call.Call.{Call}
+use Rattle.kfs_path.specs.declared.call.Call.TheVariants as calls
+use Rattle.kfs_path.specs.declared.call.Cause.{Cause}
+use Rattle.kfs_path.specs.declared.call.Data.TheVariants.{Plain}
+use Rattle.kfs_path.specs.declared.call.Errno.{Errno}
+use Rattle.kfs_path.specs.declared.call.Reply.{Reply}
+use Rattle.kfs_path.specs.declared.call.Reply.TheVariants as replies
+use Rattle.kfs_model.specs.declared.Line.TheVariants as lines
+use Rattle.kfs_model.specs.declared.Answer.TheVariants as answers
+use Rattle.kfs_model.specs.Change.{spanned}
+use Rattle.kfs_model.specs.Step.{natural, greatest_count, World}
+use Rattle.kfs_model.specs.Life.{Live, can_fail}
+use Rattle.kfs_tx.specs.Run.{Run, age_of, seen, one_change, GetFault}
+use Rattle.kfs_core.specs.declared.fault.CoreFault.{CoreFault}
+use Rattle.kfs_core.specs.declared.fault.CoreFault.TheVariants.{No, Device}
+use Rattle.kfs_core.specs.Core.{KfsState, run_in, Stays, Takes}
+use Rattle.kfs_core.specs.Files.{Wrote, WriteFault, WriteDoes, WriteFails, with_length}
+use Rattle.kfs_core.specs.Room.{grown, chunks_for, fits_in, space_in}
+use Rattle.kfs_core.proofs.FileFaults.{write_caused}
+use Rattle.kfs_posix.specs.declared.open_files.OpenFile.{OpenFile}
+use Rattle.kfs_posix.specs.Opens.{Opens, relengthed}
+use Rattle.kfs_posix.specs.Writing.{writable_in, writable_at, place_of, behind, moved_behind, PutFails, FdRefuses, FdWriteDoes, PwriteDoes}
+use Rattle.kfs_posix.specs.Book.{Book, SessionState, state_of, book_of, running_in, cause_of}
+use Rattle.kfs_posix.specs.Answering.{Counts, refusal, down_after}
+use Rattle.kfs_posix.specs.Showing.{ShowsLive, GoesOn}
+use Rattle.kfs_posix.proofs.Fault.{caused_counts, alone_caused}
+use Rattle.kfs_posix.proofs.Events.{Happens, same_machine, answered, failed, low_count}
+use Rattle.kfs_posix.proofs.OpenAnswers.{number_plain}
+use Rattle.kfs_posix.proofs.Calls.{any_cause, unread_falls}
+use Rattle.kfs_posix.proofs.WriteGoes.{Puts, put_goes, same_numbers, wrote_falls}
+use Rattle.kfs_posix.proofs.WriteEvents
+
+module _ (old : SessionState) (k0 k1 : KfsState) (o o1 : Opens) (d : Option Cause) (is : state_of k0 o d ≡ old) (up : d ≡ None) (awake : (run_in k0).machine.up ≡ true) (age : age_of (running_in old) < 2 ^ 63 - 2 ^ 40) where
+  abbrev b : Book
+  b = book_of k0 o d
+
+  -- all as it was
+  unchanged : (call : Call) (n : ℕ) → k1 ≡ k0 → o1 ≡ o → GoesOn b (lines.Call call) (answers.Reply (replies.Number n)) b → Happens old call (replies.Number n) k1 o1 d
+  unchanged call n same files goes =
+      answered old k0 k1 o o1 d is up awake call (replies.Number n) (number_plain n) (run_in k0) k0.charge k0.chunks o (same_machine (run_in k0)) (ap run_in same) (ap (λ (k : KfsState). k.charge) same) (ap (λ (k : KfsState). k.chunks) same) (ap (λ (k : KfsState). k.keys) same) (ap (λ (k : KfsState). k.pages) same) files goes
+
+  refused : (call : Call) (e : Errno) (reply : Reply) (d1 : Option Cause) → reply ≡ refusal (No e) → d1 ≡ down_after d (No e) → k1 ≡ k0 → o1 ≡ o → GoesOn b (lines.Call call) (answers.Reply (replies.Err e)) b → Happens old call reply k1 o1 d1
+  refused call e reply d1 reply_is down same files goes =
+      failed old k0 k1 o o1 d is up awake call (No e) reply d1 reply_is down (ap (λ (k : KfsState). k.charge) same) (ap (λ (k : KfsState). k.chunks) same) (ap (λ (k : KfsState). k.keys) same) (ap (λ (k : KfsState). k.pages) same) files
+      (ap (λ (k : KfsState). (run_in k).machine.cuts) same, ap (λ (k : KfsState). (run_in k).machine.faults) same) (λ none. ap (λ (k : KfsState). (run_in k).machine.up) same ∙ awake)
+      (subst (λ r. GoesOn b (lines.Call call) (answers.Reply (replies.Err e)) (record b { run = r })) (sym (ap run_in same)) goes)
+
+  -- a call that writes
+  module _ (call : Call) (can : (w : World) (cause : Cause) → can_fail w call cause ≡ true) (node size p count : ℕ) (given : List ℕ) (long : length given ≡ count) (files : Opens)
+      (puts : (live : Live) → ShowsLive b live → Puts b node size p given call (replies.Number count) files live) where
+    wrote : Wrote (run_in k0) node size p given (run_in k1) → Takes k0 (chunks_for (grown size p count) - chunks_for size) k1 → o1 ≡ files → Happens old call (replies.Number count) k1 o1 d
+    wrote (put, bytes, run_is) takes files_is =
+        let more : chunks_for (grown size p count) - chunks_for size ≡ chunks_for (grown size p (length given)) - chunks_for size = ap (λ n. chunks_for (grown size p n) - chunks_for size) (sym long) in
+        let few = low_count old k0 o d is age in
+        answered old k0 k1 o o1 d is up awake call (replies.Number count) (number_plain count)
+        (one_change (with_length put node (grown size p (length given))) (2 + spanned p (length given)) put.next)
+        (k0.charge + (chunks_for (grown size p (length given)) - chunks_for size)) (k0.chunks + (chunks_for (grown size p (length given)) - chunks_for size)) files
+        (same_numbers b node size p given call (replies.Number count) files few put bytes).0 run_is
+        (ap (λ (k : KfsState). k.charge) takes ∙ ap (λ n. k0.charge + n) more) (ap (λ (k : KfsState). k.chunks) takes ∙ ap (λ n. k0.chunks + n) more) (ap (λ (k : KfsState). k.keys) takes) (ap (λ (k : KfsState). k.pages) takes) files_is
+        (put_goes b node size p given call (replies.Number count) files few put bytes up puts)
+
+    fell : (f : DeviceFault) (reply : Reply) (d1 : Option Cause) → reply ≡ refusal (Device f) → d1 ≡ down_after d (Device f) → Stays k0 k1 → o1 ≡ o → WriteFault (run_in k0) node size p given f (run_in k1).machine → Happens old call reply k1 o1 d1
+    fell f reply d1 reply_is down rest files_is h =
+        failed old k0 k1 o o1 d is up awake call (Device f) reply d1 reply_is down (ap (λ (k : KfsState). k.charge) rest) (ap (λ (k : KfsState). k.chunks) rest) (ap (λ (k : KfsState). k.keys) rest) (ap (λ (k : KfsState). k.pages) rest) files_is
+        (caused_counts (run_in k0).machine f (run_in k1).machine awake (write_caused (run_in k0) node size p given f (run_in k1).machine h)) (λ none. absurd (cc))
+        (wrote_falls b node size p given call (replies.Number count) files (low_count old k0 o d is age) (record b { run = run_in k1; down = Some (cause_of f) }) f up refl refl can puts h)
+
+  pub unread : (call : Call) → ((w : World) (cause : Cause) → can_fail w call cause ≡ true) → (f : DeviceFault) (reply : Reply) (d1 : Option Cause) → reply ≡ refusal (Device f) → d1 ≡ down_after d (Device f) → Stays k0 k1 → o1 ≡ o → GetFault (run_in k0) f (run_in k1).machine → Happens old call reply k1 o1 d1
+  unread call can f reply d1 reply_is down rest files_is h =
+      failed old k0 k1 o o1 d is up awake call (Device f) reply d1 reply_is down (ap (λ (k : KfsState). k.charge) rest) (ap (λ (k : KfsState). k.chunks) rest) (ap (λ (k : KfsState). k.keys) rest) (ap (λ (k : KfsState). k.pages) rest) files_is
+      (caused_counts (run_in k0).machine f (run_in k1).machine awake (alone_caused (run_in k0).machine f (run_in k1).machine h.1)) (λ none. absurd (cc))
+      (unread_falls b (record b { run = run_in k1; down = Some (cause_of f) }) call f can up refl refl h)
+
+  -- ---- write
+
+  module _ (fd : ℕ) (given : List ℕ) where
+    abbrev call : Call
+    call = calls.Write fd (Plain given)
+
+    can : (w : World) (cause : Cause) → can_fail w call cause ≡ true
+    can w cause = any_cause w call refl refl refl cause
+
+    pub write_answered : (n : ℕ) → FdWriteDoes k0 o (writable_in o fd) given (Ok n) k1 o1 → Happens old call (replies.Number n) k1 o1 d
+    write_answered n (it, judged, mid, (short, inl (none, zero, same, mid_is)), files) =
+        unchanged call n same (files ∙ ap (λ x. moved_behind mid it.0 (place_of it.1) x) zero ∙ mid_is)
+        (subst (λ x. GoesOn b (lines.Call call) (answers.Reply (replies.Number x)) b) (sym zero) (WriteEvents.write_nothing b fd given it up judged short none))
+    write_answered n (it, judged, mid, (short, inr (full, (size, ok, n_is, done, takes), mid_is)), files) =
+        let node = it.1.it.node in
+        let p = place_of it.1 in
+        let count = fits_in (space_in k0) size p (length given) in
+        let may = WriteEvents.writable_of b fd given it judged in
+        subst (λ x. Happens old call (replies.Number x) k1 o1 d) (sym n_is)
+        (wrote call can node size p count (take count given) (WriteEvents.taken_is b fd given it may.0 may.1 p size ok) (WriteEvents.after_files b fd given it judged short full size ok)
+        (WriteEvents.write_puts b fd given it judged short full size ok)
+        (subst (λ x. Wrote (run_in k0) node size p (take x given) (run_in k1)) n_is done)
+        (subst (λ x. Takes k0 (chunks_for (grown size p x) - chunks_for size) k1) n_is takes)
+        (files ∙ (λ i. moved_behind (mid_is i) it.0 p n) ∙ ap (λ x. moved_behind (relengthed o node (max it.1.length (behind p x))) it.0 p x) n_is))
+
+    pub write_failed : (fault : CoreFault) (reply : Reply) (d1 : Option Cause) → FdWriteDoes k0 o (writable_in o fd) given (Err fault) k1 o1 → reply ≡ refusal fault → d1 ≡ down_after d fault → Happens old call reply k1 o1 d1
+    write_failed (No e) reply d1 (inl (judged, same, files)) reply_is down = refused call e reply d1 reply_is down same files (WriteEvents.write_refused b fd given e up judged)
+    write_failed (No e) reply d1 (inr (it, judged, (files, inl (long, e_is, same)))) reply_is down =
+        refused call e reply d1 reply_is down same files (subst (λ x. GoesOn b (lines.Call call) (answers.Reply (replies.Err x)) b) (sym e_is) (WriteEvents.write_long b fd given it up judged long))
+    write_failed (No e) reply d1 (inr (it, judged, (files, inr (short, full, (denied, same))))) reply_is down =
+        refused call e reply d1 reply_is down same files (WriteEvents.write_denied b fd given it judged short full e up denied)
+    write_failed (Device f) reply d1 (inl h) reply_is down = absurd h
+    write_failed (Device f) reply d1 (inr (it, judged, (files, short, full, (rest, inl h)))) reply_is down = unread call can f reply d1 reply_is down rest files h
+    write_failed (Device f) reply d1 (inr (it, judged, (files, short, full, (rest, inr (size, ok, h))))) reply_is down =
+        let p = place_of it.1 in
+        let count = fits_in (space_in k0) size p (length given) in
+        let may = WriteEvents.writable_of b fd given it judged in
+        fell call can it.1.it.node size p count (take count given) (WriteEvents.taken_is b fd given it may.0 may.1 p size ok) (WriteEvents.after_files b fd given it judged short full size ok) (WriteEvents.write_puts b fd given it judged short full size ok)
+        f reply d1 reply_is down rest files h
+
+    -- ---- pwrite
+
+    module _ (offset : ℤ) where
+      abbrev pcall : Call
+      pcall = calls.Pwrite fd (Plain given) offset
+
+      pcan : (w : World) (cause : Cause) → can_fail w pcall cause ≡ true
+      pcan w cause = any_cause w pcall refl refl refl cause
+
+      pub pwrite_answered : (n : ℕ) → PwriteDoes k0 o (writable_at o fd offset) (natural offset) given (Ok n) k1 o1 → Happens old pcall (replies.Number n) k1 o1 d
+      pwrite_answered n (it, judged, (short, inl (none, zero, same, files))) =
+          unchanged pcall n same files (subst (λ x. GoesOn b (lines.Call pcall) (answers.Reply (replies.Number x)) b) (sym zero) (WriteEvents.pwrite_nothing b fd given offset it judged up short none))
+      pwrite_answered n (it, judged, (short, inr (full, (size, ok, n_is, done, takes), files))) =
+          let node = it.1.it.node in
+          let p = natural offset in
+          let count = fits_in (space_in k0) size p (length given) in
+          let may = WriteEvents.p_may b fd given offset it judged in
+          subst (λ x. Happens old pcall (replies.Number x) k1 o1 d) (sym n_is)
+          (wrote pcall pcan node size p count (take count given) (WriteEvents.taken_is b fd given it may.0 may.1 p size ok) (WriteEvents.plong b fd given offset it judged short full size ok)
+          (WriteEvents.pwrite_puts b fd given offset it judged short full size ok)
+          (subst (λ x. Wrote (run_in k0) node size p (take x given) (run_in k1)) n_is done)
+          (subst (λ x. Takes k0 (chunks_for (grown size p x) - chunks_for size) k1) n_is takes)
+          (files ∙ ap (λ x. relengthed o node (max it.1.length (behind p x))) n_is))
+
+      pub pwrite_failed : (fault : CoreFault) (reply : Reply) (d1 : Option Cause) → PwriteDoes k0 o (writable_at o fd offset) (natural offset) given (Err fault) k1 o1 → reply ≡ refusal fault → d1 ≡ down_after d fault → Happens old pcall reply k1 o1 d1
+      pwrite_failed (No e) reply d1 (inl (judged, same, files)) reply_is down = refused pcall e reply d1 reply_is down same files (WriteEvents.pwrite_refused b fd given offset e up judged)
+      pwrite_failed (No e) reply d1 (inr (it, judged, (files, inl (long, e_is, same)))) reply_is down =
+          refused pcall e reply d1 reply_is down same files (subst (λ x. GoesOn b (lines.Call pcall) (answers.Reply (replies.Err x)) b) (sym e_is) (WriteEvents.pwrite_long b fd given offset it judged up long))
+      pwrite_failed (No e) reply d1 (inr (it, judged, (files, inr (short, full, (denied, same))))) reply_is down =
+          refused pcall e reply d1 reply_is down same files (WriteEvents.pwrite_denied b fd given offset it judged short full e up denied)
+      pwrite_failed (Device f) reply d1 (inl h) reply_is down = absurd h
+      pwrite_failed (Device f) reply d1 (inr (it, judged, (files, short, full, (rest, inl h)))) reply_is down = unread pcall pcan f reply d1 reply_is down rest files h
+      pwrite_failed (Device f) reply d1 (inr (it, judged, (files, short, full, (rest, inr (size, ok, h))))) reply_is down =
+          let p = natural offset in
+          let count = fits_in (space_in k0) size p (length given) in
+          let may = WriteEvents.p_may b fd given offset it judged in
+          fell pcall pcan it.1.it.node size p count (take count given) (WriteEvents.taken_is b fd given it may.0 may.1 p size ok) (WriteEvents.plong b fd given offset it judged short full size ok) (WriteEvents.pwrite_puts b fd given offset it judged short full size ok)
+          f reply d1 reply_is down rest files h
+
+-- no memory for the bytes
+pub no_memory : (old : SessionState) (k0 : KfsState) (o : Opens) (d : Option Cause) → state_of k0 o d ≡ old → d ≡ None → (run_in k0).machine.up ≡ true → age_of (running_in old) < 2 ^ 63 - 2 ^ 40 → (call : Call) → ((w : World) (cause : Cause) → can_fail w call cause ≡ true)
+    → (fault : CoreFault) (reply : Reply) (d1 : Option Cause) → fault ≡ Device Memory → reply ≡ refusal fault → d1 ≡ down_after d fault → Happens old call reply k0 o d1
+no_memory old k0 o d is up awake age call can fault reply d1 memory reply_is down =
+    unread old k0 k0 o o d is up awake age call can Memory reply d1 (reply_is ∙ ap refusal memory) (down ∙ ap (down_after d) memory) refl refl (inl (refl, refl), (refl, refl))

@@ -1,0 +1,101 @@
+// The calls by paths.
+ghost use Rattle.std.specs.Prelude.{◌≡◌, ◌≤◌, ◌<◌, ◌+◌, ◌-◌, ◌^◌, false};
+ghost use Rattle.kfs_tx.specs.Run.{age_of, Aged};
+ghost use Rattle.kfs_posix.specs.Answering.{Counts, KeepsCause};
+
+use crate::opening::open;
+use crate::paths::{found, make, names};
+use crate::session::{Session, refuse};
+use kfs_path::{Flags, Reply};
+use kv_device::Device;
+use std::alloc::Global;
+
+impl<D: Device> Session<D> {
+    ghost use Rattle.kfs_path.specs.declared.call.Call.TheVariants as calls;
+    ghost use Rattle.kfs_model.specs.declared.Line.TheVariants as lines;
+    ghost use Rattle.kfs_model.specs.declared.Answer.TheVariants as answers;
+    ghost use Rattle.kfs_posix.specs.Book.{running_in, limits_of};
+    ghost use Rattle.kfs_posix.specs.Showing.{GoesOn};
+
+    /// Makes a directory.
+    pub fn mkdir(&mut self, alloc: Global, path: &[u8]) -> Reply
+        requires { age_of (running_in self.old) < 2 ^ 63 - 2 ^ 40 }
+        ensures goes_on { GoesOn self.old.book (lines.Call (calls.Mkdir path.now)) (answers.Reply result) self.new.book }
+        ensures counts { Counts self.old.book.run.machine result self.new.book.run.machine }
+        ensures room { limits_of self.new.book ≡ limits_of self.old.book }
+        ensures down { KeepsCause self.old.book result self.new.book }
+        ensures age { Aged (running_in self.old) (running_in self.new) (2 ^ 38) }
+    {
+        if self.down.is_some() {
+            return Reply::Off;
+        }
+        match make(alloc, &mut self.kfs, path) {
+            Ok(()) => Reply::Done,
+            Err(fault) => refuse(&mut self.down, fault),
+        }
+    }
+
+    /// What a path names.
+    pub fn stat(&mut self, alloc: Global, path: &[u8]) -> Reply
+        requires { age_of (running_in self.old) < 2 ^ 63 - 2 ^ 40 }
+        ensures goes_on { GoesOn self.old.book (lines.Call (calls.Stat path.now)) (answers.Reply result) self.new.book }
+        ensures counts { Counts self.old.book.run.machine result self.new.book.run.machine }
+        ensures room { limits_of self.new.book ≡ limits_of self.old.book }
+        ensures down { KeepsCause self.old.book result self.new.book }
+        ensures age { Aged (running_in self.old) (running_in self.new) (2 ^ 38) }
+    {
+        if self.down.is_some() {
+            return Reply::Off;
+        }
+        match found(alloc, &mut self.kfs, path) {
+            Ok((node, it)) => {
+                if it.kind == 1 {
+                    return Reply::Dir { node };
+                }
+                Reply::File {
+                    node,
+                    length: it.length,
+                }
+            }
+            Err(fault) => refuse(&mut self.down, fault),
+        }
+    }
+
+    /// The names in a directory, sorted by bytes.
+    pub fn list(&mut self, alloc: Global, path: &[u8]) -> Reply
+        requires room { self.old.book.keys ≤ 68544 }
+        requires age { age_of (running_in self.old) < 2 ^ 63 - 2 ^ 40 }
+        ensures goes_on { GoesOn self.old.book (lines.Call (calls.List path.now)) (answers.Reply result) self.new.book }
+        ensures counts { Counts self.old.book.run.machine result self.new.book.run.machine }
+        ensures room { limits_of self.new.book ≡ limits_of self.old.book }
+        ensures down { KeepsCause self.old.book result self.new.book }
+        ensures age { Aged (running_in self.old) (running_in self.new) (2 ^ 38) }
+    {
+        if self.down.is_some() {
+            return Reply::Off;
+        }
+        match names(alloc, &mut self.kfs, path) {
+            Ok(names) => Reply::Names(names),
+            Err(fault) => refuse(&mut self.down, fault),
+        }
+    }
+
+    /// Opens what a path names, and makes a file where the flags say so.
+    pub fn open(&mut self, alloc: Global, path: &[u8], flags: Flags) -> Reply
+        requires whole { flags.trunc ≡ false }
+        requires age { age_of (running_in self.old) < 2 ^ 63 - 2 ^ 40 }
+        ensures goes_on { GoesOn self.old.book (lines.Call (calls.Open path.now flags)) (answers.Reply result) self.new.book }
+        ensures counts { Counts self.old.book.run.machine result self.new.book.run.machine }
+        ensures room { limits_of self.new.book ≡ limits_of self.old.book }
+        ensures down { KeepsCause self.old.book result self.new.book }
+        ensures age { Aged (running_in self.old) (running_in self.new) (2 ^ 38) }
+    {
+        if self.down.is_some() {
+            return Reply::Off;
+        }
+        match open(alloc, &mut self.kfs, &mut self.files, path, flags) {
+            Ok(fd) => Reply::Number(u64::from(fd)),
+            Err(fault) => refuse(&mut self.down, fault),
+        }
+    }
+}

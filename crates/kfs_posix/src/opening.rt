@@ -1,0 +1,154 @@
+// Opening what a path names.
+ghost use Rattle.std.specs.Prelude.{◌≡◌, ◌<◌, ◌-◌, ◌==◌, ◌^◌, All, false};
+ghost use Rattle.kfs_objects.specs.Keys.{IsNamed};
+ghost use Rattle.kfs_tx.specs.Run.{age_of, Aged, seen};
+ghost use Rattle.kfs_core.specs.Core.{run_in};
+ghost use Rattle.kfs_core.specs.Spot.{route_of};
+ghost use Rattle.kfs_posix.specs.Opening.{opened_file, is_contrary, barred, open_there_in, open_new_in, open_at_in, open_in, OpensThere, OpenDoes};
+
+use crate::open_files::{OpenFile, OpenFiles};
+use crate::paths::syntax;
+use kfs_core::{CoreFault, Kfs};
+use kfs_model::Description;
+use kfs_objects::Inode;
+use kfs_path::{Errno, Flags, Path};
+use kv_device::Device;
+use std::alloc::Global;
+
+/// Whether flags contradict each other.
+fn is_contrary(flags: Flags) -> bool
+    ensures { result ≡ is_contrary flags }
+{
+    (flags.trunc && !flags.write) || (flags.excl && !flags.creat)
+}
+
+/// Why a node that is there isn't opened.
+fn barred(is_dir: bool, trailing: bool, flags: Flags) -> Option<Errno>
+    ensures { result ≡ barred is_dir trailing flags }
+{
+    if flags.creat && flags.excl {
+        return Some(Errno::EEXIST);
+    }
+    if is_dir {
+        if flags.write || flags.creat {
+            return Some(Errno::EISDIR);
+        }
+        return None;
+    }
+    if trailing {
+        return Some(Errno::ENOTDIR);
+    }
+    None
+}
+
+/// A node that a place names, opened with these flags.
+fn opened_file(node: u64, file: bool, length: u64, flags: Flags) -> OpenFile
+    ensures { result ≡ opened_file node file length flags }
+{
+    OpenFile {
+        it: Description {
+            node,
+            offset: 0,
+            read: flags.read,
+            write: flags.write,
+            append: flags.append,
+        },
+        file,
+        length,
+        named: true,
+    }
+}
+
+/// Opens a node that is there.
+fn open_there(
+    files: &mut OpenFiles,
+    node: u64,
+    inode: Inode,
+    trailing: bool,
+    flags: Flags,
+) -> Result<u32, CoreFault>
+    ensures { OpensThere files.old.opens (open_there_in files.old.opens node inode.kind inode.length trailing flags) result files.new.opens }
+{
+    let is_dir = inode.kind == 1;
+    if let Some(errno) = barred(is_dir, trailing, flags) {
+        return Err(CoreFault::No(errno));
+    }
+    let Some(fd) = files.lowest_free() else {
+        return Err(CoreFault::No(Errno::EMFILE));
+    };
+    files.reserve()?;
+    files.open(fd, opened_file(node, !is_dir, inode.length, flags));
+    Ok(fd)
+}
+
+/// Makes a file and opens it.
+fn open_new<D: Device>(
+    alloc: Global,
+    kfs: &mut Kfs<D>,
+    files: &mut OpenFiles,
+    path: &Path,
+    flags: Flags,
+) -> Result<u32, CoreFault>
+    requires age { age_of kfs.old.running < 2 ^ 63 - 2 ^ 39 }
+    requires named { All IsNamed path.now.pieces }
+    ensures does { OpenDoes (run_in kfs.old) kfs.old.charge files.old.opens flags (open_new_in (seen (run_in kfs.old)) kfs.old.keys kfs.old.charge files.old.opens (route_of path.now) flags) result (run_in kfs.new) kfs.new.charge files.new.opens }
+    ensures chunks { kfs.new.chunks ≡ kfs.old.chunks }
+    ensures keys { kfs.new.keys ≡ kfs.old.keys }
+    ensures pages { kfs.new.pages ≡ kfs.old.pages }
+    ensures age { Aged kfs.old.running kfs.new.running (2 ^ 16) }
+{
+    if !flags.creat || path.trailing {
+        return Err(CoreFault::No(Errno::ENOENT));
+    }
+    let Some(fd) = files.lowest_free() else {
+        return Err(CoreFault::No(Errno::EMFILE));
+    };
+    files.reserve()?;
+    let node = kfs.create(alloc, path)?;
+    files.open(fd, opened_file(node, true, 0, flags));
+    Ok(fd)
+}
+
+/// Opens what a path leads to.
+fn open_at<D: Device>(
+    alloc: Global,
+    kfs: &mut Kfs<D>,
+    files: &mut OpenFiles,
+    path: &Path,
+    flags: Flags,
+) -> Result<u32, CoreFault>
+    requires age { age_of kfs.old.running < 2 ^ 63 - 2 ^ 39 }
+    requires named { All IsNamed path.now.pieces }
+    ensures does { OpenDoes (run_in kfs.old) kfs.old.charge files.old.opens flags (open_at_in (seen (run_in kfs.old)) kfs.old.keys kfs.old.charge files.old.opens (route_of path.now) flags) result (run_in kfs.new) kfs.new.charge files.new.opens }
+    ensures chunks { kfs.new.chunks ≡ kfs.old.chunks }
+    ensures keys { kfs.new.keys ≡ kfs.old.keys }
+    ensures pages { kfs.new.pages ≡ kfs.old.pages }
+    ensures age { Aged kfs.old.running kfs.new.running (2 ^ 16) }
+{
+    match kfs.find(alloc, path)? {
+        None => open_new(alloc, kfs, files, path, flags),
+        Some((node, inode)) => open_there(files, node, inode, path.trailing, flags),
+    }
+}
+
+/// Opens what a path names, and makes it where the flags say so.
+pub fn open<D: Device>(
+    alloc: Global,
+    kfs: &mut Kfs<D>,
+    files: &mut OpenFiles,
+    path: &[u8],
+    flags: Flags,
+) -> Result<u32, CoreFault>
+    requires age { age_of kfs.old.running < 2 ^ 63 - 2 ^ 39 }
+    ensures does { OpenDoes (run_in kfs.old) kfs.old.charge files.old.opens flags (open_in (seen (run_in kfs.old)) kfs.old.keys kfs.old.charge files.old.opens path.now flags) result (run_in kfs.new) kfs.new.charge files.new.opens }
+    ensures chunks { kfs.new.chunks ≡ kfs.old.chunks }
+    ensures keys { kfs.new.keys ≡ kfs.old.keys }
+    ensures pages { kfs.new.pages ≡ kfs.old.pages }
+    ensures age { Aged kfs.old.running kfs.new.running (2 ^ 16) }
+{
+    if is_contrary(flags) {
+        return Err(CoreFault::No(Errno::EINVAL));
+    }
+    let path = syntax(alloc, path)?;
+    open_at(alloc, kfs, files, &path, flags)
+}
