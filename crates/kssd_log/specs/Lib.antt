@@ -1,0 +1,4 @@
+pub mod Ring
+pub mod Append
+pub mod Scan
+pub mod ScanFaults

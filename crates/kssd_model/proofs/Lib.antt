@@ -1,0 +1,11 @@
+pub mod AnchorSizes
+pub mod AnchorTests
+pub mod AnchorAgain
+pub mod NewestLaws
+pub mod GroupsPaths
+pub mod GroupsPages
+pub mod GroupsPlace
+pub mod GroupsWalks
+pub mod GroupsDamage
+pub mod RisingEntries
+pub mod ReadingOn

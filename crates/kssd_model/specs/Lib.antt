@@ -1,0 +1,9 @@
+pub mod Ranges
+pub mod AnchorSpelling
+pub mod AnchorReading
+pub mod Anchors
+pub mod Groups
+pub mod GroupsLaws
+pub mod Rising
+pub mod OnlyReading
+pub mod RunPages
