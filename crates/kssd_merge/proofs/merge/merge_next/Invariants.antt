@@ -1,0 +1,16 @@
+use Rattle.std.proofs.Common.{◌≡◌, length}
+use Rattle.kssd_model.specs.OnlyReading.{OnlyReads}
+use Rattle.kssd_model.specs.Rising.{merged}
+use Rattle.kssd_merge.specs.Merge.{counting}
+use Rattle.kssd_merge.proofs.merge.merge_next.Given as goal
+
+abbrev pub invariant-marks : goal.invariant-marks
+invariant-marks g l = record {
+  newer_stands : g.A.Ordered.stands l.newer (g.N.Nand.flash l.nand).blocks (g.N.Nand.flash l.nand).image;
+  older_stands : g.B.Ordered.stands l.older (g.N.Nand.flash l.nand).blocks (g.N.Nand.flash l.nand).image;
+  reads : OnlyReads (g.N.Nand.flash l.fn.nand) (g.N.Nand.flash l.nand);
+  left : counting l.drop_gone (merged (g.A.Ordered.rest l.fn.newer) (g.B.Ordered.rest l.fn.older)) ≡ counting l.drop_gone (merged (g.A.Ordered.rest l.newer) (g.B.Ordered.rest l.older));
+}
+
+abbrev pub decreases-marks : goal.decreases-marks
+decreases-marks g l = length (merged (g.A.Ordered.rest l.newer) (g.B.Ordered.rest l.older))

@@ -1,0 +1,4 @@
+pub mod Merge
+pub mod Sides
+pub mod Listed
+pub mod Laws

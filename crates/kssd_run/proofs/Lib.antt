@@ -1,0 +1,9 @@
+pub mod Keys
+pub mod PageSizes
+pub mod GoingOn
+pub mod Paging
+pub mod Finding
+pub mod Opened
+pub mod Taking
+pub mod Written
+pub mod Stepping

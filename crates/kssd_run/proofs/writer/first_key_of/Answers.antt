@@ -1,0 +1,5 @@
+use Rattle.kssd_run.proofs.PageSizes.{has_entries}
+use Rattle.kssd_run.proofs.writer.first_key_of.Goals as goal
+
+pub get-requires : goal.get-requires
+get-requires c = (has_entries _ _ c.in-Ok.ensures.spelled.1).some

@@ -1,0 +1,10 @@
+pub mod Faults
+pub mod Index
+pub mod Page
+pub mod Judging
+pub mod Opening
+pub mod Pages
+pub mod Run
+pub mod Read
+pub mod Write
+pub mod Writing

@@ -1,0 +1,17 @@
+//! Sorted runs: written page by page, and read with an index of their pages' first keys.
+#![tactic(auto)]
+
+mod fault;
+mod index;
+mod judge;
+mod page;
+mod reader;
+mod writer;
+
+pub use fault::RunFault;
+pub use index::FirstKeys;
+pub use reader::Run;
+pub use writer::{Fed, RunWriter};
+
+#[cfg(test)]
+mod tests;
