@@ -1,7 +1,7 @@
 -- What a run comes to, by its steps.
 use Rattle.std.proofs.Common.{◌≡◌, ◌≤◌, ◌<◌, ◌⊎◌, inl, inr, ℕ, true, false, List, [], length, Option, Some, None, refl, sym, ap, subst, nat_lt, arith, length-append, IfSome}
 use Rattle.std.proofs.lemmas.Bool.Decides.{nat_tests}
-use Rattle.kfs_model.specs.Script.{script_of}
+use Rattle.kfs_script.specs.Script.{script_of}
 use Rattle.kevin.specs.declared.ending.Ending.{Ending}
 use Rattle.kevin.specs.declared.ending.Ending.TheVariants.{Quiet, Prints}
 use Rattle.kevin.specs.Outside.{GivesAll, IsReadOut}
@@ -69,7 +69,7 @@ all_given None text now given = tt
 
 is_due : (d : Due) (before now : Option (List ℕ)) (status : ℕ) (text : List ℕ) → IsReadOut before now → IsDue d None None status text → IsDue d before now status text
 is_due (Refused due_status due_text) before now status text out is = is
-is_due (Answered blocks ls) before now status text out is = (is.0, out, is.2)
+is_due (Answered blocks ls) before now status text out is = (out, is.1)
 
 -- what a script comes to, a run comes to that read it
 pub script_comes : (words : List (List ℕ)) (old new : Side) (bytes : List ℕ) (ending : Ending) → is_command words ≡ true → GivesAll old.bytes bytes new.bytes → length bytes ≤ script_limit → IsScriptDue (script_of bytes) ending → ComesTo words old new ending

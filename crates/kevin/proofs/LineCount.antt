@@ -3,7 +3,7 @@ use Rattle.std.proofs.Common.{◌≡◌, ◌≤◌, ◌+◌, ◌*◌, ◌++◌, 
 use Rattle.std.specs.Prelude.{◌==◌, ◌&&◌}
 use Rattle.std.specs.List.{slice_split, onto_first}
 use Rattle.kfs_model.specs.declared.Line.{Line}
-use Rattle.kfs_model.specs.Script.{script_of, lines_from, lines_of, added, alone, followed, with_front, line_at, has_none}
+use Rattle.kfs_script.specs.Script.{script_of, lines_from, lines_of, added, alone, followed, with_front, line_at, has_none}
 
 -- the bytes of pieces, with the byte behind each
 abbrev size : List (List ℕ) → ℕ

@@ -6,7 +6,7 @@ use Rattle.kfs_model.specs.declared.Line.{Line}
 use Rattle.kfs_model.specs.declared.Answer.{Answer}
 use Rattle.kfs_model.specs.Tree.{Limits}
 use Rattle.kfs_model.specs.Life.{State, Life, Event, newborn, life_more}
-use Rattle.kfs_model.specs.AnswerText.{text_of, texts_of}
+use Rattle.kfs_script.specs.AnswerText.{text_of, texts_of}
 
 -- a life goes on by the line at an index
 pub life_at : (k : Limits) (ls : List Line) (i : ℕ) (given : List Answer) (s t : State) (line : Line) (answer : Answer) → i < length ls → line ≡ get_or ls i line → Life k newborn (take i ls) given s → Event k s line answer t → Life k newborn (take (i + 1) ls) (given ++ answer ∷ []) t

@@ -23,6 +23,9 @@ use Rattle.kfs_shows.proofs.AllNamed.{named_whole}
 use Rattle.kfs_tx.specs.Run.{age_of, Aged}
 use Rattle.kfs_core.specs.declared.fault.HostFault.{HostFault}
 use Rattle.kfs_core.specs.declared.fault.HostFault.TheVariants.{Damaged, Cut, Eio, NoMem}
+use Rattle.kfs_core.specs.Clearing.{Keeps}
+use Rattle.kfs_core.proofs.Cleared.{kept_all}
+use Rattle.kfs_posix.proofs.Mounting.{saved_still}
 use Rattle.kfs_core.specs.Starting.{NotMounted, formatted, first_objects}
 use Rattle.kfs_posix.specs.Answering.{Counts}
 use Rattle.kfs_posix.specs.Book.{Book, SessionState, limits_of, running_in}
@@ -88,8 +91,8 @@ mounts_at l s (Down old may) past k n stands is =
     (subst P (sym is) stands.1, λ i. with_now s (Up (up_at (stands.0 i) (sym is i))))
 
 -- a session shows the state that it goes on from
-shows_up : (m : Machine) (s : State) (b : Book) (live : Live) → AreArmed m s → ShowsLive b live → b.run.machine ≡ begun (restarted m) 0 → ShowsState b (with_now s (Up live))
-shows_up m s b live armed shows is =
+shows_up : (m : Machine) (now : Objects) (s : State) (b : Book) (live : Live) → AreArmed m s → ShowsLive b live → b.run.machine ≡ begun (record (restarted m) { stable = now }) 0 → ShowsState b (with_now s (Up live))
+shows_up m now s b live armed shows is =
     let Cuts : Machine → Type 0 = λ x. x.most_cuts ≤ x.cuts + one_if s.cut_armed in
     let Faults : Machine → Type 0 = λ x. x.most_faults ≤ x.faults + one_if s.fail_armed in
     let MostCuts : Machine → Type 0 = λ x. x.cuts ≤ x.most_cuts in
@@ -110,11 +113,12 @@ mount_age : (device changes next cuts faults old : ℕ) → device ≤ 2 ^ 38 �
 mount_age device changes next cuts faults old a b c d = omega arith
 
 -- a mount goes on from what the device stores
-pub mount_goes : (seat : Seat) (m : Machine) (new : SessionState) (n : ℕ) → m ≡ restarted (seat_machine seat) → Mounts m new.book → new.book.run.machine ≡ begun m 0 → new.book.run.changes < 2 ^ 62 → new.book.run.next < 2 ^ 62 → Ages 0 new.device_age (2 ^ 38) → n ≡ new.book.run.changes → SeatGoes seat lines.Mount (answers.Mounted n) (Mounted new)
+pub mount_goes : (seat : Seat) (m : Machine) (new : SessionState) (n : ℕ) → m ≡ restarted (seat_machine seat) → Mounts m new.book → new.book.run.machine ≡ begun (record m { stable = new.book.run.machine.stable }) 0 → new.book.run.changes < 2 ^ 62 → new.book.run.next < 2 ^ 62 → Ages 0 new.device_age (2 ^ 38) → n ≡ new.book.run.changes → SeatGoes seat lines.Mount (answers.Mounted n) (Mounted new)
 mount_goes seat m new n up mounts begins changes next aged is =
     let P : Machine → Type 0 = λ x. Mounts x new.book in
     let here = subst P up mounts in
-    let machine : new.book.run.machine ≡ begun (restarted (seat_machine seat)) 0 = begins ∙ ap (λ x. begun x 0) up in
+    let now = new.book.run.machine.stable in
+    let machine : new.book.run.machine ≡ begun (record (restarted (seat_machine seat)) { stable = now }) 0 = begins ∙ ap (λ (x : Machine). begun (record x { stable = now }) 0) up in
     let cuts : new.book.run.machine.most_cuts ≡ (seat_machine seat).most_cuts = ap (λ (x : Machine). x.most_cuts) machine in
     let faults : new.book.run.machine.most_faults ≡ (seat_machine seat).most_faults = ap (λ (x : Machine). x.most_faults) machine in
     let most = most_le seat in
@@ -126,7 +130,7 @@ mount_goes seat m new n up mounts begins changes next aged is =
           let got = here.each st.past st.k st.saved in (
             with_now s (Up (up_at st.past st.k)),
             mounts_at (seat_limits seat) s s.now st.past st.k n st.stands (is ∙ got.0),
-            shows_up (seat_machine seat) s new.book (up_at st.past st.k) st.armed got.1 machine,
+            shows_up (seat_machine seat) now s new.book (up_at st.past st.k) st.armed got.1 machine,
             limits_now new.book (Up (up_at st.past st.k)) got.1 ∙ ap limits_in machine ∙ sym (seat_room seat s shows),
             mount_age new.device_age new.book.run.changes new.book.run.next new.book.run.machine.most_cuts new.book.run.machine.most_faults (seat_age seat) young changes next most_new,
           );
@@ -156,19 +160,18 @@ rose_by old new most false bound low few le (inl more) = absurd (omega arith)
 rose_by old new most armed bound low few le (inr top) = absurd (omega arith)
 
 -- a device that a mount left shows that the life is down
-bare_shows : (m new : Machine) (s t : State) → Stores m s → new.stable ≡ m.stable → limits_in new ≡ limits_in m → t.now ≡ fallen_now s.now → AreArmed new t → ShowsBare new t
-bare_shows m new s t st stable room now armed =
+bare_shows : (m new : Machine) (s t : State) → Stores m s → Keeps m.stable new.stable → limits_in new ≡ limits_in m → t.now ≡ fallen_now s.now → AreArmed new t → ShowsBare new t
+bare_shows m new s t st keeps room now armed =
     let D : Now → Type 0 = λ n. IsDown n in
     let A : Now → Type 0 = λ n. StandsAt n st.past st.k in
     let L : Limits → Type 0 = λ l. IsSaved l m.stable (tree_at st.past st.k) st.k in
-    let O : Objects → Type 0 = λ o. IsSaved (limits_in new) o (tree_at st.past st.k) st.k in
     record {
       down = subst D (sym now) (is_down s.now);
       stores = record {
         past = st.past;
         k = st.k;
         stands = subst A (sym now) (still_stands s.now st.past st.k st.stands);
-        saved = subst O (sym stable) (subst L (sym room) st.saved);
+        saved = saved_still (limits_in new) m.stable new.stable (tree_at st.past st.k) st.k keeps (subst L (sym room) st.saved);
         armed = armed;
       };
     }
@@ -182,7 +185,7 @@ failed l m new s Cut st not =
     let others = not.bounds.most_faults in (
       t,
       fails_at l s s.now causes.Cut r.0,
-      bare_shows m new s t st not.stable (λ i. record { keys = not.bounds.room_keys i; pages = not.bounds.room_pages i }) refl (record {
+      bare_shows m new s t st not.keeps (λ i. record { keys = not.bounds.room_keys i; pages = not.bounds.room_pages i }) refl (record {
         cuts = omega (arith, r.1, most);
         faults = omega (arith, not.cause.1, others, st.armed.faults);
         most_cuts = omega (arith, not.cause.0.0, most);
@@ -198,7 +201,7 @@ failed l m new s Eio st not =
     let others = not.bounds.most_cuts in (
       t,
       fails_at l s s.now causes.Eio r.0,
-      bare_shows m new s t st not.stable (λ i. record { keys = not.bounds.room_keys i; pages = not.bounds.room_pages i }) refl (record {
+      bare_shows m new s t st not.keeps (λ i. record { keys = not.bounds.room_keys i; pages = not.bounds.room_pages i }) refl (record {
         cuts = omega (arith, not.cause.1, others, st.armed.cuts);
         faults = omega (arith, r.1, most);
         most_cuts = omega (arith, not.cause.1, others, st.armed.most_cuts);
@@ -213,7 +216,7 @@ failed l m new s NoMem st not =
     let faults = not.bounds.most_faults in (
       t,
       fails_at l s s.now causes.NoMem refl,
-      bare_shows m new s t st not.stable (λ i. record { keys = not.bounds.room_keys i; pages = not.bounds.room_pages i }) refl (record {
+      bare_shows m new s t st not.keeps (λ i. record { keys = not.bounds.room_keys i; pages = not.bounds.room_pages i }) refl (record {
         cuts = omega (arith, not.cause.0, cuts, st.armed.cuts);
         faults = omega (arith, not.cause.1, faults, st.armed.faults);
         most_cuts = omega (arith, not.cause.0, cuts, st.armed.most_cuts);
@@ -393,18 +396,21 @@ room_of keys pages h =
     λ i. few i && none i
 
 -- a session on a device that was formatted shows where a life begins
-pub begins : (m : Machine) (new : SessionState) (keys pages : ℕ) → m ≡ formatted (fresh keys pages) → 3 ≤ keys → Mounts m new.book → new.book.run.machine ≡ begun m 0 → ShowsState new.book newborn × (limits_of new.book ≡ record { keys = keys; pages = pages })
+pub begins : (m : Machine) (new : SessionState) (keys pages : ℕ) → m ≡ formatted (fresh keys pages) → 3 ≤ keys → Mounts m new.book → new.book.run.machine ≡ begun (record m { stable = new.book.run.machine.stable }) 0 → ShowsState new.book newborn × (limits_of new.book ≡ record { keys = keys; pages = pages })
 begins m new keys pages is room mounts begun_is =
     let P : Machine → Type 0 = λ x. Mounts x new.book in
     let here = subst P is mounts in
-    let machine : new.book.run.machine ≡ begun (formatted (fresh keys pages)) 0 = begun_is ∙ ap (λ x. begun x 0) is in
+    let now = new.book.run.machine.stable in
+    let machine : new.book.run.machine ≡ begun (record (formatted (fresh keys pages)) { stable = now }) 0 = begun_is ∙ ap (λ (x : Machine). begun (record x { stable = now }) 0) is in
     let saved : IsSaved (record { keys = keys; pages = pages }) first_objects root_alone 0 = record {
       tree = root_is_tree;
+      kept = root_alone;
+      is_kept = kept_all root_alone root_is_tree;
+      kept_tree = root_is_tree;
       shows = first_shows;
       next = omega arith;
       count = omega arith;
       room = room_of keys pages room;
-      whole = root_whole;
     } in
     let got = here.each first_past 0 saved in
     let Q : Tree → Type 0 = λ t. ShowsLive new.book (live_of t) in

@@ -1,5 +1,5 @@
 -- How a run of the program ends.
-use Rattle.std.specs.Prelude.{None, ℕ, ◌≡◌, ◌⊎◌, ◌++◌, Bool, true, false, nat_lt, if◌then◌else◌, List, [], ◌∷◌, length, codes, Option, Result, Ok, Err, IfSome}
+use Rattle.std.specs.Prelude.{None, ℕ, ◌≡◌, ◌≤◌, ◌<◌, ◌⊎◌, ◌++◌, take, Bool, true, false, nat_lt, if◌then◌else◌, List, [], ◌∷◌, length, codes, Option, Result, Ok, Err, IfSome}
 use Rattle.std.specs.Str.{bytes_eq}
 use Rattle.kfs_path.specs.declared.call.Reply.TheVariants as replies
 use Rattle.kfs_model.specs.declared.Line.{Line}
@@ -7,8 +7,8 @@ use Rattle.kfs_model.specs.declared.Line.TheVariants as lines
 use Rattle.kfs_model.specs.declared.Answer.{Answer}
 use Rattle.kfs_model.specs.declared.Answer.TheVariants as answers
 use Rattle.kfs_model.specs.Life.{State, Life, newborn}
-use Rattle.kfs_model.specs.Script.{script_of}
-use Rattle.kfs_model.specs.AnswerText.{texts_of, and_number, newline}
+use Rattle.kfs_script.specs.Script.{script_of}
+use Rattle.kfs_script.specs.AnswerText.{texts_of, and_number, newline}
 use Rattle.kevin.specs.declared.ending.Ending.{Ending}
 use Rattle.kevin.specs.declared.ending.Ending.TheVariants.{Quiet, Prints}
 use Rattle.kevin.specs.Outside.{HasRisen, Takes, TakesSome, IsReadOut}
@@ -48,6 +48,13 @@ bad_image = codes "bad image" ++ newline
 abbrev pub too_long : List ℕ
 too_long = codes "script too long" ++ newline
 
+abbrev pub too_much : List ℕ
+too_much = codes "output too long" ++ newline
+
+-- the most bytes of the text of the answers
+abbrev pub output_limit : ℕ
+output_limit = 268435456
+
 -- there is no image yet, so a script begins with a format
 abbrev pub due_by : Result (List Line) ℕ → Due
 due_by (Err number) = Refused 2 (bad_line number)
@@ -70,11 +77,29 @@ abbrev pub AreAnswers : ℕ → List Line → List Answer → Type 0
 AreAnswers blocks ls [] = ⊥
 AreAnswers blocks ls (first ∷ given) = (first ≡ answers.Reply replies.Done) × (end : State) × Life (limits_of blocks) newborn ls given end
 
--- the status and the text that are due, and at status 0 the source was read to its end
+-- the text of the answers to all lines, of at most so many bytes
+pub record IsAnswered (blocks : ℕ) (ls : List Line) (most : ℕ) (text : List ℕ) : Type 0 where
+  pub given : List Answer
+  pub are : AreAnswers blocks ls given
+  pub same : text ≡ texts_of given
+  pub short : length text ≤ most
+
+-- the last of the answers to the first lines brings their text above that
+pub record Overflows (blocks : ℕ) (ls : List Line) (most : ℕ) : Type 0 where
+  pub count : ℕ
+  pub given : List Answer
+  pub last : Answer
+  pub some : count ≤ length ls
+  pub are : AreAnswers blocks (take count ls) (given ++ last ∷ [])
+  pub below : length (texts_of given) ≤ most
+  pub above : most < length (texts_of (given ++ last ∷ []))
+
+-- the status and the text that are due; where the script was answered, the source was read to its end
 abbrev pub IsDue : Due → Option (List ℕ) → Option (List ℕ) → ℕ → List ℕ → Type 0
 IsDue (Refused due_status due_text) before now status text = (status ≡ due_status) × (text ≡ due_text)
 IsDue (Answered blocks ls) before now status text =
-    (status ≡ 0) × IsReadOut before now × ((given : List Answer) × AreAnswers blocks ls given × (text ≡ texts_of given))
+    IsReadOut before now
+    × (((status ≡ 0) × IsAnswered blocks ls output_limit text) ⊎ ((status ≡ 9) × (text ≡ too_much) × Overflows blocks ls output_limit))
 
 -- the source failed, and so the script of a command was not read
 abbrev pub FailsToRead : List (List ℕ) → Side → Side → ℕ → Type 0

@@ -1,6 +1,6 @@
 // What a run comes to before its text is written.
 ghost use Rattle.std.specs.Prelude.{◌≡◌, ◌⊎◌, ◌++◌, ◌∷◌, [], OnOk, OnErr, IfOk, codes};
-ghost use Rattle.kfs_model.specs.AnswerText.{and_number, newline};
+ghost use Rattle.kfs_script.specs.AnswerText.{and_number, newline};
 ghost use Rattle.kevin.specs.declared.ending.Ending.TheVariants.{Quiet};
 
 use kv_base::{Memory, Text};

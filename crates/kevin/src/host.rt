@@ -3,7 +3,7 @@ ghost use Rattle.std.specs.Prelude.{◌≡◌, ◌≤◌, ◌<◌, ◌+◌, ◌-
 ghost use Rattle.kfs_model.specs.Tree.{Limits};
 ghost use Rattle.kfs_model.specs.Life.{State, Event};
 ghost use Rattle.kevin.specs.Lines.{IsBuilt};
-ghost use Rattle.kfs_model.specs.Script.{IsLine, is_format};
+ghost use Rattle.kfs_script.specs.Script.{IsLine, is_format};
 
 use kfs_script::{Answer, Line};
 use std::alloc::Global;

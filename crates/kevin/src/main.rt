@@ -4,12 +4,16 @@
 ghost use Rattle.std.specs.Prelude.{◌≡◌};
 ghost use Rattle.kevin.specs.Ending.{Ends, side, IsWritten};
 
+#[cfg(test)]
+mod cut_tests;
 mod ending;
 mod host;
 mod lines;
 mod memory;
 mod outside;
 mod reading;
+#[cfg(test)]
+mod row_tests;
 mod running;
 mod seat;
 mod standard;

@@ -1,11 +1,13 @@
 // Scripts from their bytes to what they come to.
-ghost use Rattle.std.specs.Prelude.{◌≡◌, ◌≤◌, length, Ok, All};
-ghost use Rattle.kfs_model.specs.Script.{script_of, IsScript};
+ghost use Rattle.std.specs.Prelude.{◌≡◌, ◌≤◌, ◌∷◌, length, Ok, All, false};
+ghost use Rattle.kfs_script.specs.Script.{script_of, IsScript};
 ghost use Rattle.kevin.specs.Lines.{IsBuilt};
+ghost use Rattle.kfs_script.specs.Script.{IsLine, is_format};
+ghost use Rattle.kfs_model.specs.declared.Line.TheVariants as formats;
 ghost use Rattle.kevin.specs.Ending.{ComesTo, side, is_command, IsScriptDue};
 
 use crate::ending::{Ending, NO_MEMORY, line_refused, refused};
-use crate::lines::answer_lines;
+use crate::lines::{Unanswered, answer_lines};
 use crate::outside::Source;
 use crate::reading::{Unread, read_to_end};
 use kfs_script::{Line, ScriptFault, read_script};
@@ -58,10 +60,27 @@ fn run_lines(alloc: Global, lines: &[Line]) -> Ending
     ensures { IsScriptDue (Ok lines.now) result }
 {
     match lines.split_first() {
-        Some((Line::Format(blocks), more)) => match answer_lines(alloc, *blocks, more) {
-            Ok(text) => Ending::Prints(0, text),
-            Err(_) => Ending::Quiet(NO_MEMORY),
-        },
+        Some((Line::Format(blocks), more)) => run_formatted(alloc, *blocks, more),
         _ => refused(alloc, 3, b"bad image\n"),
+    }
+}
+
+// The most bytes of the text of the answers.
+const OUTPUT_LIMIT: usize = 268_435_456;
+
+// What a format of so many blocks and the lines behind it come to.
+fn run_formatted(alloc: Global, blocks: u16, lines: &[Line]) -> Ending
+    requires fewest { 256 ≤ blocks }
+    requires most { blocks ≤ 2048 }
+    requires few { length lines.now ≤ 8388608 }
+    requires lines { All IsLine lines.now }
+    requires formats { All (λ line. is_format line ≡ false) lines.now }
+    requires built { All IsBuilt lines.now }
+    ensures { IsScriptDue (Ok (formats.Format blocks ∷ lines.now)) result }
+{
+    match answer_lines(alloc, blocks, lines, OUTPUT_LIMIT) {
+        Ok(text) => Ending::Prints(0, text),
+        Err(Unanswered::TooLong) => refused(alloc, 9, b"output too long\n"),
+        Err(Unanswered::Memory) => Ending::Quiet(NO_MEMORY),
     }
 }

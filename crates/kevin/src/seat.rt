@@ -13,6 +13,7 @@ use kfs_core::{HostFault, format};
 use kfs_path::{Call, Cause, Reply};
 use kfs_posix::Session;
 use kfs_script::{Answer, Line};
+use kssd_layout::Layout;
 use kv_base::Memory;
 use kv_device::{MapDevice, PlannedDevice};
 use std::alloc::Global;
@@ -38,19 +39,6 @@ fn cause_of(fault: &HostFault) -> Cause
     }
 }
 
-// The greatest numbers of keys and of values in pages on a device of so many blocks.
-fn limits_for(blocks: u16) -> (u32, u32)
-    requires fewest { 256 ≤ blocks }
-    requires most { blocks ≤ 2048 }
-    ensures keys { result.0 ≡ (limits_of blocks).keys }
-    ensures pages { result.1 ≡ (limits_of blocks).pages }
-{
-    let beyond = u32::from(blocks) - 138;
-    let eighth = beyond / 8;
-    let values = beyond - 2 * eighth;
-    (288 * eighth, 32 * (values - 44))
-}
-
 impl Seat {
     ghost use Rattle.kevin.specs.Seats.{Shown, SeatGoes, seat_limits, seat_age, shows_seat, seat_machine};
     ghost use Rattle.kv_device.specs.MapDevice.{machine_of};
@@ -66,8 +54,10 @@ impl Seat {
         ensures limits { IfOk result (λ seat. seat_limits seat ≡ limits_of blocks) }
         ensures age { IfOk result (λ seat. seat_age seat ≤ 2 ^ 62) }
     {
-        let (keys, pages) = limits_for(blocks);
-        let mut device = MapDevice::new(alloc, keys, pages)?;
+        let Some(layout) = Layout::of(blocks) else {
+            unreachable!();
+        };
+        let mut device = MapDevice::new(alloc, layout.max_keys, layout.max_pages)?;
         match format(alloc, &mut device) {
             Ok(()) => Seat::begin(alloc, device),
             Err(_) => Err(Memory),

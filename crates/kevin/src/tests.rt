@@ -1,5 +1,9 @@
+ghost use Rattle.std.specs.Prelude.{◌≤◌};
+
 // Runs of the program over sources and sinks in memory.
 use super::*;
+use crate::lines::{Unanswered, answer_lines};
+use kfs_script::Line;
 use kv_base::Memory;
 use std::io::{Read, Write};
 use std::test::Fail;
@@ -317,5 +321,25 @@ fn a_reader_is_a_source_and_a_writer_a_sink(rt: HostRuntime) -> Result<(), Fail>
     let mut sink = Outgoing::new(room.as_mut_slice());
     assert!(&rt; matches!(sink.write(b"abcd"), Ok(3)));
     assert!(&rt; matches!(sink.write(b"d"), Ok(0)));
+    Ok(())
+}
+
+// How the answers to a format and two directories end, in at most so many bytes.
+fn ends_within(alloc: Global, most: usize) -> Result<u8, Fail>
+    requires { 3 ≤ most }
+{
+    let lines = [Line::Mount, Line::Mount];
+    match answer_lines(alloc, 256, &lines, most) {
+        Ok(_) => Ok(0),
+        Err(Unanswered::TooLong) => Ok(9),
+        Err(Unanswered::Memory) => Err(Fail::from(Memory)),
+    }
+}
+
+#[test]
+fn answers_may_have_so_many_bytes_and_no_more(rt: HostRuntime) -> Result<(), Fail> {
+    assert_eq!(&rt; ends_within(rt.alloc(), 23)?, 0);
+    assert_eq!(&rt; ends_within(rt.alloc(), 22)?, 9);
+    assert_eq!(&rt; ends_within(rt.alloc(), 3)?, 9);
     Ok(())
 }

@@ -1,7 +1,7 @@
-use Rattle.std.proofs.Common.{◌≡◌, ◌≤◌, ◌+◌, ◌*◌, ◌^◌, ◌++◌, List, take}
+use Rattle.std.proofs.Common.{◌≡◌, ◌≤◌, ◌+◌, ◌*◌, ◌^◌, ◌++◌, List, length, take}
 use Rattle.kfs_model.specs.declared.Answer.{Answer}
 use Rattle.kfs_model.specs.Life.{State, Life, newborn}
-use Rattle.kfs_model.specs.AnswerText.{texts_of}
+use Rattle.kfs_script.specs.AnswerText.{texts_of}
 use Rattle.kevin.proofs.lines.answer_all.Given as goal
 
 abbrev pub invariant-loop-line : goal.invariant-loop-line
@@ -13,4 +13,5 @@ invariant-loop-line g l = record {
   shows : g.H.Host.shows l.host state;
   limits : g.H.Host.limits l.host ≡ g.H.Host.limits l.initial.host;
   age : g.H.Host.age l.host ≤ 2 ^ 62 + 2 ^ 38 * l.line-index;
+  short : length l.text ≤ l.most;
 }

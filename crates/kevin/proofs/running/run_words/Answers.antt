@@ -1,5 +1,5 @@
 use Rattle.std.proofs.Common.{◌≡◌, ◌∙◌, sym, true, false, List, ℕ, subst}
-use Rattle.kfs_model.specs.Script.{script_of}
+use Rattle.kfs_script.specs.Script.{script_of}
 use Rattle.kevin.specs.declared.reading.Unread.{Unread}
 use Rattle.kevin.specs.Reading.{StopsReading}
 use Rattle.kevin.specs.Ending.{is_command, side, IsScriptDue}
