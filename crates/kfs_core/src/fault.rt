@@ -4,6 +4,8 @@ use kv_base::{Damage, Memory};
 use kv_device::DeviceFault;
 use std::alloc::{AllocError, AllocFailed};
 
+/// Why a call of the file system gives no answer of its own: the error that the call reports, or what the
+/// device answered.
 #[derive(Debug, Drop)]
 pub enum CoreFault {
     No(Errno),

@@ -205,6 +205,7 @@ impl<D: Device> Kfs<D> {
         self.run.head().changes
     }
 
+    /// Gives the device back. What was changed since the last boundary is lost.
     pub fn into_device(self) -> D
         ensures machine { D.machine result ≡ (run_in self).machine }
         ensures age { D.age result ≡ self.running.device_age }

@@ -17,6 +17,7 @@ use std::alloc::Global;
 /// The least number that a super of a mounted file system doesn't have.
 const TOO_HIGH: u64 = 1 << 62;
 
+/// What a fault of the device is for a session.
 pub fn host_fault(fault: &DeviceFault) -> HostFault
     ensures { result ≡ host_fault fault.now }
 {

@@ -120,6 +120,8 @@ fn go_on<D: Device>(
     Ok(())
 }
 
+/// Follows the pieces from the root to where the last one is named. Errors: ENOENT and ENOTDIR where a piece
+/// before it names nothing or no directory.
 pub fn walk<D: Device>(
     alloc: Global,
     run: &mut Running<D>,

@@ -17,6 +17,8 @@ use kv_base::Names;
 use kv_device::Device;
 use std::alloc::Global;
 
+/// Cuts a path into pieces. Errors: ENOENT for an empty path, ENAMETOOLONG for a piece of more than 255
+/// bytes or a path of more than 1,024.
 pub fn syntax(alloc: Global, bytes: &[u8]) -> Result<Path, CoreFault>
     ensures gives { Gives route_of result (syntax bytes.now) }
     ensures named { IfOk result (λ path. All IsNamed path.pieces) }

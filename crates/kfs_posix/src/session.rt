@@ -175,6 +175,7 @@ impl<D: Device> Session<D> {
         self.kfs.changes()
     }
 
+    /// Gives the device back. What was changed since the last boundary is lost.
     pub fn into_device(self) -> D
         ensures machine { D.machine result ≡ self.book.run.machine }
         ensures age { D.age result ≡ self.device_age }

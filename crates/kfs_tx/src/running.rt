@@ -18,6 +18,7 @@ const MOST_CHANGES: u32 = 64;
 
 const MOST_WEIGHT: u64 = 256;
 
+/// A device and its one open transaction, with the super and what was changed since the last boundary.
 #[derive(Drop)]
 pub struct Running<D: Device> {
     device: D,
@@ -89,6 +90,8 @@ impl<D: Device> Running<D> {
         self.device.get(alloc, self.tx, key)
     }
 
+    /// Gives a key a value within the transaction. Errors: the value or the transaction is too large, the
+    /// device failed, or memory is missing; nothing is changed then.
     pub fn set(&mut self, alloc: Global, key: &Key, value: &Value) -> Result<(), DeviceFault>
         requires { age_of self.old < 2 ^ 63 - 2 ^ 38 }
         ensures ok { OnOk result (self.new.run ≡ put_in self.old.run key.now value.now) }
@@ -100,6 +103,7 @@ impl<D: Device> Running<D> {
         self.device.set(alloc, self.tx, key, value)
     }
 
+    /// Takes a key away within the transaction; one that is absent stays absent. Errors as those of `set`.
     pub fn delete(&mut self, alloc: Global, key: &Key) -> Result<(), DeviceFault>
         requires { age_of self.old < 2 ^ 63 - 2 ^ 38 }
         ensures ok { OnOk result (self.new.run ≡ deleted_in self.old.run key.now) }
@@ -219,6 +223,7 @@ impl<D: Device> Running<D> {
         self.weight
     }
 
+    /// How many changes there were, and the next number.
     pub fn head(&self) -> Super
         ensures changes { result.changes ≡ self.now.run.changes }
         ensures next { result.next ≡ self.now.run.next }
@@ -226,6 +231,7 @@ impl<D: Device> Running<D> {
         self.head
     }
 
+    /// Gives the device back. What was changed since the last boundary is lost.
     pub fn into_device(self) -> D
         ensures machine { D.machine result ≡ self.run.machine }
         ensures age { D.age result ≡ self.device_age }

@@ -41,6 +41,7 @@ impl SortedEntries {
         })
     }
 
+    /// How many entries there are, 2,048 at most.
     pub fn len(&self) -> u32
         ensures value { result ≡ length self.now }
         ensures most { result ≤ 2048 }
@@ -48,6 +49,7 @@ impl SortedEntries {
         self.items.len() as u32
     }
 
+    /// The entries by rising keys.
     pub fn as_slice(&self) -> &[Entry]
         ensures value { result.now ≡ self.now }
         ensures sorted { IsSortedTable self.now }
@@ -70,6 +72,7 @@ impl SortedEntries {
         has_at(&self.items, place, key)
     }
 
+    /// The entry of a key.
     pub fn find(&self, key: &Key) -> Option<&Entry>
         ensures { option_copied result ≡ find_entry self.now key.now }
     {
@@ -84,6 +87,7 @@ impl SortedEntries {
         rest_from(&self.items, key)
     }
 
+    /// Copies of the first entries from a key on, `at_most` of them. Errors: want of memory.
     pub fn from(&self, alloc: Global, key: &Key, at_most: u32) -> Result<Entries, Memory>
         ensures value { IfOk result (λ entries. entries ≡ take at_most (entries_from self.now key.now)) }
         ensures rising { IfOk result (λ entries. is_rising entries ≡ true) }
@@ -93,6 +97,7 @@ impl SortedEntries {
         copies_of(alloc, &rest[..count])
     }
 
+    /// Puts an entry in the place of the older one of its key. Errors: want of memory, and nothing is changed.
     pub fn put(&mut self, entry: Entry) -> Result<(), Memory>
         requires { IsSome (find_entry self.old (key_of entry)) ⊎ (length self.old < 2048) }
         ensures ok { OnOk result (self.new ≡ put_entry self.old entry) }

@@ -7,9 +7,12 @@ use crate::DeviceFault;
 use kv_base::{Key, Pairs, Value};
 use std::alloc::Global;
 
+/// The number of an open transaction, 0 to 3.
 #[derive(Clone, Copy, Debug, PartialEq, Eq)]
 pub struct TxId(pub u32);
 
+/// A device that keeps objects, each a value under a key. Calls work in up to four open transactions, and
+/// only `end` makes their changes stable, all of them or none.
 pub trait Device {
     /// The device as a machine.
     ghost machine: { Self → Machine };

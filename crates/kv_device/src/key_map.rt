@@ -13,6 +13,7 @@ use std::collections::BTreeMap;
 use std::collections::btree_map::Iter;
 use std::marker::Model;
 
+/// A map by rising keys.
 #[derive(Drop)]
 pub struct KeyMap<V> {
     map: BTreeMap<Key, V>,
@@ -32,6 +33,7 @@ impl<V> Model for KeyMap<V> {
 }
 
 impl<V> KeyMap<V> {
+    /// An empty map.
     pub fn new(alloc: Global) -> KeyMap<V>
         ensures { result ≡ objects.empty }
     {
@@ -40,12 +42,14 @@ impl<V> KeyMap<V> {
         }
     }
 
+    /// How many keys there are.
     pub fn len(&self) -> usize
         ensures { result ≡ objects.len self.now }
     {
         self.map.len()
     }
 
+    /// The value of a key.
     pub fn get(&self, key: &Key) -> Option<&V>
         ensures { option_copied result ≡ objects.get self.now key.now }
     {
@@ -65,6 +69,7 @@ impl<V: Drop> KeyMap<V> {
         Ok(old)
     }
 
+    /// Takes a key away; one that is absent stays absent.
     pub fn remove(&mut self, key: &Key)
         ensures { self.new ≡ objects.remove self.old key.now }
     {

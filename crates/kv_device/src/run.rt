@@ -7,6 +7,7 @@ use crate::{Device, DeviceFault, TxId};
 use kv_base::{Key, Memory, Pairs, Value};
 use std::alloc::Global;
 
+/// A call of a device, as a value.
 #[derive(Debug, Drop)]
 pub enum Command {
     Begin,
@@ -40,6 +41,7 @@ pub enum Command {
     },
 }
 
+/// What a call answered, as a value.
 #[derive(Debug, Drop)]
 pub enum Reply {
     Begun(TxId),
