@@ -1,0 +1,5 @@
+pub mod Calls
+pub mod Open
+pub mod Reaching
+pub mod Start
+pub mod Walking
