@@ -1,6 +1,6 @@
 ghost use Rattle.std.specs.Prelude.{◌≤◌, length};
 
-use super::PlainTree;
+use super::{PlainTree, Totals};
 use kfs_path::{Call, Data, Errno, Flags, Memory, Reply, Text, Whence};
 use std::alloc::Global;
 use std::test::Fail;
@@ -19,6 +19,10 @@ enum Op<'a> {
     Pread(u32, u32, i64),
     Pwrite(u32, &'a str, i64),
     Seek(u32, i64),
+    /// From the current offset.
+    Skip(u32, i64),
+    /// From the end of the file.
+    Back(u32, i64),
     Truncate(&'a str, i64),
     Ftruncate(u32, i64),
     Mkdir(&'a str),
@@ -28,6 +32,9 @@ enum Op<'a> {
     Stat(&'a str),
     Fstat(u32),
     List(&'a str),
+    Fsync(u32),
+    Sync,
+    Work,
     Room,
 }
 
@@ -90,12 +97,8 @@ fn fill(fd: u32, count: u32) -> Call {
     Call::Write { fd, bytes }
 }
 
-fn seek(fd: u32, offset: i64) -> Call {
-    Call::Lseek {
-        fd,
-        whence: Whence::Set,
-        offset,
-    }
+fn seek(fd: u32, whence: Whence, offset: i64) -> Call {
+    Call::Lseek { fd, whence, offset }
 }
 
 fn call_of(alloc: Global, op: Op) -> Result<Call, Memory> {
@@ -125,9 +128,14 @@ fn call_of(alloc: Global, op: Op) -> Result<Call, Memory> {
         Op::Read(fd, count) => Call::Read { fd, count },
         Op::Fill(fd, count) => fill(fd, count),
         Op::Pread(fd, count, offset) => Call::Pread { fd, count, offset },
-        Op::Seek(fd, offset) => seek(fd, offset),
+        Op::Seek(fd, offset) => seek(fd, Whence::Set, offset),
+        Op::Skip(fd, offset) => seek(fd, Whence::Cur, offset),
+        Op::Back(fd, offset) => seek(fd, Whence::End, offset),
         Op::Ftruncate(fd, length) => Call::Ftruncate { fd, length },
         Op::Fstat(fd) => Call::Fstat { fd },
+        Op::Fsync(fd) => Call::Fsync { fd },
+        Op::Sync => Call::Sync,
+        Op::Work => Call::Work { operations: 100 },
         Op::Room => Call::Room,
     })
 }
@@ -256,7 +264,7 @@ const DIRECTORIES_MOVE_WHOLE: [(Op, Want); 8] = [
     (Op::List("/"), Want::Name("a")),
 ];
 
-const ROOM_ENDS: [(Op, Want); 14] = [
+const ROOM_ENDS: [(Op, Want); 16] = [
     (Op::Open("/f0", "rwc"), Want::Number(0)),
     (Op::Fill(0, 1048576), Want::Number(1048576)),
     (Op::Open("/f1", "rwc"), Want::Number(1)),
@@ -271,6 +279,8 @@ const ROOM_ENDS: [(Op, Want); 14] = [
     (Op::Fill(5, 1048576), Want::Number(786432)),
     (Op::Write(5, "x"), Want::No(Errno::ENOSPC)),
     (Op::Room, Want::Room(1487, 1472)),
+    (Op::Seek(0, 0), Want::Number(0)),
+    (Op::Fill(0, 1048576), Want::Number(1048576)),
 ];
 
 const DUPLICATES_SHARE_AN_OFFSET: [(Op, Want); 8] = [
@@ -349,6 +359,46 @@ const FIRST_OF_TWO_ERRORS: [(Op, Want); 22] = [
     (Op::Rename("/a", "/a/x/y"), Want::No(Errno::ENOENT)),
 ];
 
+const LATER_ERRORS_WAIT: [(Op, Want); 34] = [
+    (Op::Mkdir("/a"), Want::Done),
+    (Op::Open("/f", "rwc"), Want::Number(0)),
+    (Op::Open("/a", "r"), Want::Number(1)),
+    (Op::Open("/f", "r"), Want::Number(2)),
+    (Op::Open("", "rt"), Want::No(Errno::EINVAL)),
+    (Op::Open("/f/", "rcx"), Want::No(Errno::EEXIST)),
+    (Op::Open("/a", "rc"), Want::No(Errno::EISDIR)),
+    (Op::Fill(2, 1048577), Want::No(Errno::EBADF)),
+    (Op::Pread(1, 1, -1), Want::No(Errno::EISDIR)),
+    (Op::Pwrite(0, "", -1), Want::No(Errno::EINVAL)),
+    (Op::Truncate("", -1), Want::No(Errno::EINVAL)),
+    (Op::Mkdir("/f/"), Want::No(Errno::EEXIST)),
+    (Op::Mkdir("/a/.."), Want::No(Errno::EEXIST)),
+    (Op::Unlink("/x/."), Want::No(Errno::EPERM)),
+    (Op::Unlink("/f/"), Want::No(Errno::ENOTDIR)),
+    (Op::Rename("/a/.", ""), Want::No(Errno::ENOENT)),
+    (Op::Rename("/x", "/f/y"), Want::No(Errno::ENOENT)),
+    (Op::Rename("/a", "/f"), Want::No(Errno::ENOTDIR)),
+    (Op::Mkdir("/a/b/"), Want::Done),
+    (Op::Rename("/f", "/a"), Want::No(Errno::EISDIR)),
+    (Op::Rename("/f", "/a/"), Want::No(Errno::EISDIR)),
+    (Op::Rename("/a", "/a/b"), Want::No(Errno::EINVAL)),
+    (Op::Rmdir("/a"), Want::No(Errno::ENOTEMPTY)),
+    (Op::Rmdir("/f"), Want::No(Errno::ENOTDIR)),
+    (Op::List("/f"), Want::No(Errno::ENOTDIR)),
+    (
+        Op::Seek(0, 9223372036854775807),
+        Want::Number(9223372036854775807),
+    ),
+    (Op::Skip(0, 1), Want::No(Errno::EOVERFLOW)),
+    (Op::Back(0, -1), Want::No(Errno::EINVAL)),
+    (Op::Back(1, 3), Want::Number(3)),
+    (Op::Write(0, ""), Want::Number(0)),
+    (Op::Fsync(3), Want::No(Errno::EBADF)),
+    (Op::Fsync(1), Want::Done),
+    (Op::Work, Want::Done),
+    (Op::Sync, Want::Done),
+];
+
 const NAMES_HAVE_AN_END: [(Op, Want); 3] = [
     (
         Op::Mkdir(
@@ -388,11 +438,14 @@ fn calls_answer_by_their_rules(rt: HostRuntime) -> Result<(), Fail> {
 fn the_first_error_that_applies_is_the_answer(rt: HostRuntime) -> Result<(), Fail> {
     let alloc = rt.alloc();
     assert!(&rt; all_answer(alloc, &FIRST_OF_TWO_ERRORS)?);
+    assert!(&rt; all_answer(alloc, &LATER_ERRORS_WAIT)?);
     Ok(())
 }
 
-const DESCRIPTORS_END: [(Op, Want); 8] = [
+const DESCRIPTORS_END: [(Op, Want); 10] = [
     (Op::Open("/f", "rwc"), Want::No(Errno::EMFILE)),
+    (Op::Open("/f/", "r"), Want::No(Errno::ENOTDIR)),
+    (Op::Open("/g", "wc"), Want::No(Errno::EMFILE)),
     (Op::Dup(0), Want::No(Errno::EMFILE)),
     (Op::Dup(64), Want::No(Errno::EBADF)),
     (Op::Open("/f", "rcx"), Want::No(Errno::EEXIST)),
@@ -402,11 +455,46 @@ const DESCRIPTORS_END: [(Op, Want); 8] = [
     (Op::Open("/f", "r"), Want::Number(3)),
 ];
 
+// There is room for one file without bytes.
+const ROOM_IS_JUDGED_LAST: [(Op, Want); 8] = [
+    (Op::Close(3), Want::Done),
+    (Op::Open("/g", "wc"), Want::No(Errno::ENOSPC)),
+    (Op::Mkdir("/f"), Want::No(Errno::EEXIST)),
+    (Op::Mkdir("/g"), Want::No(Errno::ENOSPC)),
+    (Op::Pwrite(0, "a", 0), Want::No(Errno::ENOSPC)),
+    (Op::Pwrite(0, "a", 1048576), Want::No(Errno::EFBIG)),
+    (Op::Ftruncate(0, 1), Want::No(Errno::ENOSPC)),
+    (Op::Ftruncate(0, 1048577), Want::No(Errno::EFBIG)),
+];
+
 #[test]
 fn sixty_four_descriptors_are_open_at_most(rt: HostRuntime) -> Result<(), Fail> {
     let alloc = rt.alloc();
-    let mut tree = PlainTree::new(alloc, 4032, 1472)?;
+    let mut tree = PlainTree::new(alloc, 5, 0)?;
     assert!(&rt; opens(alloc, &mut tree, 64)?);
     assert!(&rt; row_answers(alloc, &mut tree, &DESCRIPTORS_END)?);
+    Ok(())
+}
+
+#[test]
+fn room_is_judged_last(rt: HostRuntime) -> Result<(), Fail> {
+    let alloc = rt.alloc();
+    let mut tree = PlainTree::new(alloc, 5, 0)?;
+    assert!(&rt; opens(alloc, &mut tree, 4)?);
+    assert!(&rt; row_answers(alloc, &mut tree, &ROOM_IS_JUDGED_LAST)?);
+    Ok(())
+}
+
+#[test]
+fn totals_are_of_the_whole_tree(rt: HostRuntime) -> Result<(), Fail> {
+    let alloc = rt.alloc();
+    let mut tree = PlainTree::new(alloc, 4032, 1472)?;
+    assert!(&rt; row_answers(alloc, &mut tree, &HOLES_ARE_ZERO)?);
+    let wanted = Totals {
+        nodes: 2,
+        chunks: 3,
+        bytes: 10001,
+    };
+    assert_eq!(&rt; tree.totals(), wanted);
     Ok(())
 }
