@@ -1,10 +1,9 @@
 -- The nodes without a name go one by one, and the same tree is shown without them.
-use Rattle.std.proofs.Common.{◌≡◌, ◌≢◌, ℕ, ◌<◌, ◌≤◌, ◌+◌, ◌^◌, ◌⊎◌, inl, inr, true, false, cond, Bool, T, refl, sym, ◌∙◌, ap, subst, arith, List, Option, Some, None, IsSome}
+use Rattle.std.proofs.Common.{◌≡◌, ℕ, ◌<◌, ◌≤◌, ◌+◌, ◌^◌, inl, inr, true, cond, refl, sym, ◌∙◌, ap, subst, arith, List, Option, Some, None, IsSome}
 use Rattle.std.specs.Ordering.{nat_cmp}
 use Rattle.std.specs.Cmp.{nat_cmp_total}
-use Rattle.std.specs.Option.{option_map}
 use Rattle.std.specs.FinMap as objects
-use Rattle.std.specs.FinMap.{find, is_sorted, nat_cmp-IsAntisymmetric}
+use Rattle.std.specs.FinMap.{find, nat_cmp-IsAntisymmetric}
 use Rattle.std.specs.FinMap.Entries.{same_entries, find-where_key}
 use Rattle.kv_device.specs.declared.fault.DeviceFault.{DeviceFault}
 use Rattle.kv_device.specs.declared.fault.DeviceFault.TheVariants.{Memory}
@@ -14,27 +13,23 @@ use Rattle.kv_device.specs.Machine.{Machine, none_open}
 use Rattle.kfs_objects.specs.declared.keys.ObjectKey.{ObjectKey}
 use Rattle.kfs_objects.specs.declared.keys.ObjectKey.TheVariants.{Orphan}
 use Rattle.kfs_objects.specs.Forms.{SpellsKey, spells_super, spells_inode, spells_entry, spells_chunk, spells_orphan}
-use Rattle.kfs_objects.specs.Keys.{super_key, inode_key, chunk_key, orphan_key}
+use Rattle.kfs_objects.specs.Keys.{super_key, orphan_key}
 use Rattle.kfs_objects.specs.Records.{orphan_value}
-use Rattle.kfs_laws.proofs.Keeping.{named_tree, named_kept}
+use Rattle.kfs_laws.proofs.Keeping.{named_kept}
 use Rattle.kfs_model.specs.declared.Node.{Node}
-use Rattle.kfs_model.specs.Tree.{Place, place_cmp, Tree, IsTree, IsKept, IsNameless, named, is_named, number_at, node_of}
+use Rattle.kfs_model.specs.Tree.{place_cmp, Tree, IsTree, IsKept, IsNameless, named, is_named, node_of}
 use Rattle.kfs_shows.specs.Shows.{Shows}
 use Rattle.kfs_shows.specs.Laws.{without_node, DropsNode}
 use Rattle.kfs_shows.proofs.Dropping.{still_tree, still_shows, is_kept}
 use Rattle.kfs_shows.proofs.KeysApart.{kinds}
 use Rattle.kfs_shows.proofs.Sweeping.{nameless_test}
-use Rattle.kfs_tx.specs.Run.{Run, IsReady, Caused, Fallen, GetFault, CommitFault, SameBounds, seen, started, committed, deleted_in}
-use Rattle.kfs_tx.proofs.Falling.{get_falls}
-use Rattle.kfs_file.specs.Contents.{Fails, RemoveFault}
-use Rattle.kfs_file.proofs.Failing.{caused_alone, cause_before, fails_after}
+use Rattle.kfs_tx.specs.Run.{Run, Caused, Fallen, CommitFault, seen, started, committed, deleted_in}
+use Rattle.kfs_file.specs.Contents.{Fails}
+use Rattle.kfs_file.proofs.Failing.{cause_before}
 use Rattle.kfs_core.specs.Clearing.{Keeps, Cleared, Clears, ClearFails, IsFresh, NoOrphans, with_stable}
-use Rattle.kfs_core.specs.declared.fault.HostFault.{HostFault}
-use Rattle.kfs_core.specs.declared.fault.HostFault.TheVariants.{NoMem}
 use Rattle.kfs_core.specs.Flat.{inode_in}
-use Rattle.kfs_core.specs.Starting.{HostCause, NotMounted, host_fault}
 use Rattle.kfs_core.specs.Removing.{Goes, chunks_for}
-use Rattle.kfs_core.proofs.Dropped.{Follows, drops, none_past, goes_follows, follows_deleted, deletion_fails}
+use Rattle.kfs_core.proofs.Dropped.{Follows, drops, none_past, goes_follows, follows_deleted}
 use Rattle.kfs_core.proofs.Fresh.{fresh_ready, fresh_seen, fresh_keys, fresh_over, fresh_started, committed_fresh, commit_either}
 
 -- ---- kept trees

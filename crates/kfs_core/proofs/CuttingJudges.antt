@@ -1,5 +1,5 @@
 -- What giving a file a length by its path is judged by, and what a last close finds.
-use Rattle.std.proofs.Common.{◌≡◌, ℕ, ◌<◌, ◌≤◌, ◌+◌, ◌==◌, ◌&&◌, ◌||◌, true, false, Bool, refl, sym, ◌∙◌, ap, subst, ◌^◌, arith, List, [], ◌∷◌, length, map, Option, Some, None, Result, Ok, Err, nat_lt}
+use Rattle.std.proofs.Common.{◌≡◌, ℕ, ◌<◌, ◌≤◌, ◌==◌, ◌||◌, true, false, Bool, refl, sym, ◌∙◌, ap, subst, ◌^◌, arith, List, [], ◌∷◌, length, map, Option, Some, None, Result, Ok, Err}
 use Rattle.std.specs.Prelude.{pos}
 use Rattle.std.specs.List.{AllByRecursion, list_any}
 use Rattle.std.specs.Option.{option_map, option_and_then}
@@ -10,13 +10,12 @@ use Rattle.std.proofs.lemmas.Slice.Eq.{bytes_eq-Decides}
 use Rattle.kv_device.specs.Objects.{Objects}
 use Rattle.kfs_objects.specs.Keys.{be64}
 use Rattle.kfs_objects.proofs.KeyLaws.{same64}
-use Rattle.kfs_path.specs.Pieces.{pieces_of}
 use Rattle.kfs_path.specs.declared.call.Errno.{Errno}
 use Rattle.kfs_path.specs.declared.call.Errno.TheVariants.{ENOENT, ENOTDIR, EISDIR, EFBIG}
 use Rattle.kfs_model.specs.declared.Node.{Node}
 use Rattle.kfs_model.specs.declared.Node.TheVariants.{Dir, File}
 use Rattle.kfs_model.specs.Ladder.{◌>>=◌, ◌>>◌, ◌when◌}
-use Rattle.kfs_model.specs.Tree.{Place, Tree, Limits, entry_at, walk, with_node, resized, has_room, greatest_length, node_of, number_at}
+use Rattle.kfs_model.specs.Tree.{Place, Tree, Limits, entry_at, walk, with_node, resized, has_room, greatest_length, node_of}
 use Rattle.kfs_model.specs.declared.Description.{Description}
 use Rattle.kfs_model.specs.Step.{Route, syntax, or_else, is_dir, has_dir, truncate, lengthened}
 use Rattle.kfs_model.specs.Change.{node_at}
@@ -25,7 +24,7 @@ use Rattle.kfs_core.specs.Stands.{Stands}
 use Rattle.kfs_core.specs.Flat.{Where, at_root, walk_in, found_in, inode_in, reach_in}
 use Rattle.kfs_core.specs.Removing.{release_at, is_open_in}
 use Rattle.kfs_core.specs.Resizing.{resize_in}
-use Rattle.kfs_core.proofs.Ways.{IsSpot, Alike, kind_of, inode_at, walks, root_spot}
+use Rattle.kfs_core.proofs.Ways.{Alike, kind_of, inode_at, walks, root_spot}
 use Rattle.kfs_core.proofs.Judges.{syntax_named, found_at, seen_as}
 use Rattle.kfs_core.proofs.Fitting.{IsSpaceOf}
 use Rattle.kfs_core.proofs.Ladders.{SameAs, same_when}

@@ -1,5 +1,5 @@
 -- What is left when a node's chunks, inode and orphan object are deleted.
-use Rattle.std.proofs.Common.{◌≡◌, ◌≢◌, ℕ, ◌<◌, ◌≤◌, ◌+◌, ◌-◌, ◌*◌, ◌/◌, ◌^◌, ◌⊎◌, inl, inr, refl, sym, ◌∙◌, ap, subst, arith, List, length, Option, Some, None, unwrap_or}
+use Rattle.std.proofs.Common.{◌≡◌, ◌≢◌, ℕ, ◌<◌, ◌≤◌, ◌+◌, ◌^◌, ◌⊎◌, inl, inr, refl, sym, ◌∙◌, ap, subst, arith, List, length, Option, Some, None, unwrap_or}
 use Rattle.std.specs.FinMap as objects
 use Rattle.std.specs.Option.{option_map, option_and_then}
 use Rattle.std.proofs.lemmas.List.{length-set}
@@ -11,15 +11,15 @@ use Rattle.kfs_objects.specs.Keys.{inode_key, chunk_key, orphan_key}
 use Rattle.kfs_objects.specs.Records.{read_inode}
 use Rattle.kfs_model.specs.declared.Node.{Node}
 use Rattle.kfs_model.specs.declared.Node.TheVariants.{Dir, File}
-use Rattle.kfs_model.specs.Tree.{Tree, IsTree, node_of, greatest_length}
+use Rattle.kfs_model.specs.Tree.{Tree, IsTree, node_of}
 use Rattle.kfs_shows.specs.Shows.{ShowsTree, ShowsChunk, inode_of}
 use Rattle.kfs_shows.specs.Laws.{DropsNode}
-use Rattle.kfs_shows.proofs.Lookups.{key_removed, key_kept, decide_bytes}
+use Rattle.kfs_shows.proofs.Lookups.{key_removed, key_kept}
 use Rattle.kfs_shows.proofs.KeysApart.{kinds, same_chunk}
-use Rattle.kfs_tx.specs.Run.{Run, IsReady, seen, changed_keys, deleted_in, Fallen}
+use Rattle.kfs_tx.specs.Run.{Run, IsReady, seen, deleted_in}
 use Rattle.kfs_tx.proofs.Seeing.{ready_deleted, seen_deleted, keys_deleted}
 use Rattle.kfs_tx.proofs.Falling.{delete_falls, only_memory_falls}
-use Rattle.kfs_file.specs.Contents.{Fails, RemoveFault, RemovesChunks, ChangesAtMost, pending_of}
+use Rattle.kfs_file.specs.Contents.{Fails, RemoveFault, ChangesAtMost, pending_of}
 use Rattle.kfs_core.specs.Flat.{inode_in}
 use Rattle.kfs_core.specs.Removing.{Goes, chunks_for}
 use Rattle.kfs_core.proofs.Ways.{kind_of, read_inode_of}

@@ -1,8 +1,7 @@
 -- A running transaction with nothing in it, and after a commit another one.
-use Rattle.std.proofs.Common.{◌≡◌, ℕ, suc, ◌⊎◌, inl, inr, true, Bool, refl, sym, ◌∙◌, ap, subst, arith, not, cond, List, [], ◌∷◌, length, Option, Some, None, is_none, is_some, unwrap_or, option_and_then, slice_get, slice_set}
+use Rattle.std.proofs.Common.{◌≡◌, ℕ, suc, ◌⊎◌, inl, inr, true, refl, sym, ◌∙◌, ap, subst, arith, not, cond, [], ◌∷◌, length, Some, None, is_none, unwrap_or, option_and_then, slice_get, slice_set}
 use Rattle.std.specs.List.{list_all}
 use Rattle.std.specs.FinMap as objects
-use Rattle.std.proofs.lemmas.List.{length-set}
 use Rattle.kv_device.specs.Bytes.{bytes_cmp}
 use Rattle.kv_device.specs.declared.fault.DeviceFault.{DeviceFault}
 use Rattle.kv_device.specs.declared.fault.DeviceFault.TheVariants.{NoTx, Busy, TxFull, Full, BadSize, Off, Failed, Memory}

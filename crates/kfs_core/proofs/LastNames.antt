@@ -1,10 +1,10 @@
 -- A walk that ends in a name.
-use Rattle.std.proofs.Common.{◌≡◌, ℕ, ◌<◌, ◌||◌, true, false, cond, Bool, refl, sym, ◌∙◌, ap, subst, arith, List, [], ◌∷◌, ◌++◌, length, Ok}
+use Rattle.std.proofs.Common.{◌≡◌, ◌<◌, ◌||◌, true, false, cond, Bool, refl, sym, ◌∙◌, subst, arith, List, [], ◌∷◌, ◌++◌, length, Ok}
 use Rattle.std.specs.List.{AllByRecursion}
 use Rattle.std.proofs.lemmas.List.{length_push}
 use Rattle.kv_device.specs.Objects.{Objects}
 use Rattle.kfs_objects.specs.Keys.{IsNamed}
-use Rattle.kfs_model.specs.Ladder.{◌>>=◌, bind_ok}
+use Rattle.kfs_model.specs.Ladder.{bind_ok}
 use Rattle.kfs_model.specs.Tree.{Name, is_dot, is_dot_dot}
 use Rattle.kfs_model.specs.Step.{is_root, ends_by, ends_in_dots}
 use Rattle.kfs_core.specs.Flat.{Where, enter_in, further_in, up_from, find_in, walk_in}

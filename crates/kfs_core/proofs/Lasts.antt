@@ -1,5 +1,5 @@
 -- A walk whose last piece is a name ends under that name in a directory.
-use Rattle.std.proofs.Common.{◌≡◌, ◌≢◌, ℕ, ◌<◌, ◌≤◌, ◌+◌, ◌-◌, ◌||◌, true, false, cond, Bool, refl, sym, ◌∙◌, ap, subst, arith, List, [], ◌∷◌, ◌++◌, length, take, get_or, Some, Ok}
+use Rattle.std.proofs.Common.{◌≡◌, ◌≢◌, ◌<◌, ◌≤◌, ◌+◌, ◌-◌, ◌||◌, true, false, cond, Bool, refl, sym, ◌∙◌, ap, subst, arith, List, [], ◌∷◌, ◌++◌, length, take, get_or, Some, Ok}
 use Rattle.std.specs.List.{AllByRecursion}
 use Rattle.std.specs.Str.{bytes_eq}
 use Rattle.std.proofs.lemmas.List.{length_push, take-append-le, take_all}
@@ -8,7 +8,6 @@ use Rattle.kfs_model.specs.declared.Node.TheVariants.{Dir}
 use Rattle.kfs_model.specs.Ladder.{bind_ok}
 use Rattle.kfs_model.specs.Tree.{Place, Name, Tree, parent, further, entered, entry_at, walk, walk_from, is_dot, is_dot_dot, IsName, number_at, node_of}
 use Rattle.kfs_model.specs.Step.{is_root, ends_by, ends_in_dots}
-use Rattle.kfs_core.specs.Stands.{Stands}
 use Rattle.kfs_core.specs.Flat.{Where, at_root, enter_in, find_in, up_from, further_in, walk_in}
 use Rattle.kfs_core.specs.Making.{parent_of}
 use Rattle.kfs_core.proofs.Pieces.{IsPart, ok_is}

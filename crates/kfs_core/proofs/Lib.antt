@@ -32,3 +32,6 @@ pub mod Weights
 pub mod NamesAfter
 pub mod CuttingJudges
 pub mod Plans
+pub mod InOrder
+pub mod Told
+pub mod Small

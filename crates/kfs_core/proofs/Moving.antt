@@ -1,7 +1,6 @@
 -- What stands between where an entry moves, and the faults.
-use Rattle.std.proofs.Common.{◌≡◌, ℕ, ◌≤◌, ◌+◌, inr, Bool, refl, sym, ◌∙◌, ap, subst, arith, Option, Some, None, Result, Ok}
+use Rattle.std.proofs.Common.{◌≡◌, ℕ, ◌+◌, inr, Bool, sym, ◌∙◌, ap, subst, arith, Option, Some, None, Result, Ok}
 use Rattle.kv_device.specs.declared.fault.DeviceFault.{DeviceFault}
-use Rattle.kv_device.specs.Machine.{Machine}
 use Rattle.kv_device.specs.Objects.{Objects}
 use Rattle.kfs_path.specs.declared.call.Errno.{Errno}
 use Rattle.kfs_tx.specs.Run.{Run, seen}

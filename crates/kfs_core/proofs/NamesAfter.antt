@@ -1,5 +1,5 @@
 -- Which nodes have a name after an entry goes or moves.
-use Rattle.std.proofs.Common.{◌≡◌, ◌≢◌, ℕ, false, refl, sym, ◌∙◌, ap, subst, [], ◌∷◌, ◌++◌, Option, Some, None}
+use Rattle.std.proofs.Common.{◌≡◌, ◌≢◌, ℕ, false, sym, ◌∙◌, ap, subst, [], ◌∷◌, ◌++◌, Option, Some, None}
 use Rattle.kfs_model.specs.Tree.{Place, Name, Tree, below, without_place, renamed, is_named, IsTree, number_at}
 use Rattle.kfs_shows.proofs.StillNamed.{unnamed_others, unnamed_one, moved_named, moved_over_others, moved_over_one}
 use Rattle.kfs_core.specs.Removing.{Leaf}

@@ -1,11 +1,11 @@
 -- What stands between where a name is taken away, and the faults.
-use Rattle.std.proofs.Common.{◌≡◌, ℕ, ◌<◌, ◌≤◌, ◌+◌, ◌^◌, ◌⊎◌, ◌&&◌, inl, inr, true, false, Bool, refl, sym, ◌∙◌, ap, subst, arith, List, length, Option, Some, Result, Ok, nat_lt, unwrap_or}
+use Rattle.std.proofs.Common.{◌≡◌, ℕ, ◌≤◌, ◌+◌, ◌&&◌, inr, true, false, Bool, refl, sym, ◌∙◌, ap, subst, arith, List, length, Some, Result, Ok, nat_lt, unwrap_or}
 use Rattle.std.specs.FinMap as objects
 use Rattle.std.proofs.lemmas.Bool.Decides.{nat_tests}
 use Rattle.std.proofs.lemmas.List.{length-set}
 use Rattle.kv_device.specs.declared.fault.DeviceFault.{DeviceFault}
 use Rattle.kv_device.specs.Machine.{Machine, changes_of}
-use Rattle.kfs_objects.specs.Keys.{inode_key, entry_key, orphan_key}
+use Rattle.kfs_objects.specs.Keys.{entry_key, orphan_key}
 use Rattle.kfs_objects.specs.Records.{orphan_value, inode_value, entry_value}
 use Rattle.kfs_objects.proofs.KeyLaws.{length_be64}
 use Rattle.kv_device.specs.Objects.{Objects}
@@ -15,7 +15,7 @@ use Rattle.kfs_tx.proofs.Seeing.{ready_put, keys_put}
 use Rattle.kfs_tx.proofs.Falling.{put_falls}
 use Rattle.kfs_file.specs.Contents.{Fails}
 use Rattle.kfs_file.proofs.Failing.{fails_after}
-use Rattle.kfs_core.specs.Removing.{Leaf, Goes, Loses, Unnames, UnlinkFault, UnlinkFails, ReleaseFault, ReleaseFails, release_at, chunks_for, chunks_lost, chunks_gone}
+use Rattle.kfs_core.specs.Removing.{Leaf, Loses, Unnames, UnlinkFault, UnlinkFails, ReleaseFault, ReleaseFails, release_at, chunks_lost, chunks_gone}
 use Rattle.kfs_core.specs.declared.fault.CoreFault.TheVariants.{Device}
 use Rattle.kfs_core.specs.Core.{KfsState, run_in, Stays}
 use Rattle.kfs_core.specs.Flat.{inode_in}

@@ -2,7 +2,6 @@
 use Rattle.std.proofs.Common.{◌≡◌, ◌≢◌, ℕ, ◌<◌, ◌≤◌, ◌+◌, ◌-◌, ◌^◌, ◌&&◌, true, false, Bool, refl, sym, ◌∙◌, ap, subst, arith, List, length, Option, Some, None, Result, Ok, Err, nat_le, nat_lt, cond, ◌/◌}
 use Rattle.std.specs.Prelude.{pos}
 use Rattle.std.proofs.lemmas.Bool.Decides.{nat_tests}
-use Rattle.kv_device.specs.Objects.{Objects}
 use Rattle.kfs_path.specs.declared.call.Call.{Call}
 use Rattle.kfs_path.specs.declared.call.Call.TheVariants as calls
 use Rattle.kfs_path.specs.declared.call.Errno.{Errno}
@@ -10,10 +9,10 @@ use Rattle.kfs_path.specs.declared.call.Reply.TheVariants as replies
 use Rattle.kfs_model.specs.declared.Node.{Node}
 use Rattle.kfs_model.specs.declared.Node.TheVariants.{Dir, File}
 use Rattle.kfs_model.specs.Ladder.{◌>>=◌}
-use Rattle.kfs_model.specs.Tree.{Tree, Place, Limits, charge, chunks, has_room, with_node, without_place, renamed, resized, greatest_length, IsTree, IsNameless, node_of}
+use Rattle.kfs_model.specs.Tree.{Tree, Place, Limits, charge, chunks, has_room, with_node, without_place, renamed, resized, greatest_length, IsNameless, node_of}
 use Rattle.kfs_model.specs.Desk.{Desk, is_open}
-use Rattle.kfs_model.specs.Step.{World, After, Route, syntax, step, settled, swept, unlink, rmdir_at, rename, leaves_swept, changes_tree, truncate, content}
-use Rattle.kfs_model.specs.Change.{weight, resizing, node_resizing, node_at}
+use Rattle.kfs_model.specs.Step.{World, Route, syntax, step, settled, swept, unlink, rmdir_at, rename, leaves_swept, changes_tree, truncate, content}
+use Rattle.kfs_model.specs.Change.{weight, resizing, node_resizing}
 use Rattle.kfs_shows.specs.Sweeping.{ShowsWorld, OpenBut, Frees, with_tree}
 use Rattle.kfs_laws.proofs.Lookups.{number_put}
 use Rattle.kfs_file.proofs.Resizing.{length_resized}
@@ -28,17 +27,17 @@ use Rattle.kfs_core.specs.Room.{chunks_for}
 use Rattle.kfs_core.specs.Files.{with_length}
 use Rattle.kfs_core.specs.Removing.{Leaf, Goes, Unnames, chunks_gone, keys_gone, unlink_in, rmdir_in, release_at}
 use Rattle.kfs_core.specs.Renaming.{Move, Replaces, with_moved, chunks_replaced, keys_replaced, rename_in}
-use Rattle.kfs_core.specs.Resizing.{PutsLength, keys_cut, resize_weight}
+use Rattle.kfs_core.specs.Resizing.{PutsLength, resize_weight}
 use Rattle.kfs_core.proofs.Ways.{kind_of}
 use Rattle.kfs_core.proofs.FileEffects.{SameNumbers}
 use Rattle.kfs_core.proofs.Fitting.{IsSpaceOf}
 use Rattle.kfs_core.proofs.Ladders.{of_ok, of_err}
 use Rattle.kfs_core.proofs.RemovingJudges.{IsLeaf, UnlinksLeaf, unlink_same, RemovesLeaf, rmdir_same}
 use Rattle.kfs_core.proofs.RenamingJudges.{IsMove, IsOver, MovesPath, rename_same}
-use Rattle.kfs_core.proofs.RemovingEffects.{Rests, LeavesWorld, unnames_leaves, moves_leaves, releases_leaves}
+use Rattle.kfs_core.proofs.RemovingEffects.{LeavesWorld, unnames_leaves, moves_leaves, releases_leaves}
 use Rattle.kfs_core.proofs.ResizingJudges.{charge_resized, chunks_resized, resized_stays, resized_rests, resized_shows}
 use Rattle.kfs_core.proofs.CuttingJudges.{CutsTree, truncate_in, truncate_same, release_finds}
-use Rattle.kfs_core.proofs.Weights.{unlink_weight, close_weight, no_chunks, moves_left, rename_weight, rename_stays, resizing_is, resizing_stays}
+use Rattle.kfs_core.proofs.Weights.{unlink_weight, close_weight, no_chunks, moves_left, rename_weight, rename_stays, resizing_is}
 
 -- a change that is put but not counted yet, with the open files after the call: n is its weight, c and p what is taken of the keys and pages then
 pub record Plan (r mid : Run) (k : Limits) (w : World) (desk_after : Desk) (call : Call) (n c p : ℕ) : Type 0 where

@@ -1,10 +1,9 @@
 -- What removals and renames do to the objects: they show the tree that the definitions leave.
-use Rattle.std.proofs.Common.{◌≡◌, ◌≢◌, ℕ, ◌<◌, ◌≤◌, ◌+◌, ◌*◌, ◌^◌, true, false, Bool, refl, sym, ◌∙◌, ap, subst, arith, List, [], ◌∷◌, ◌++◌, length, Option, Some, None}
+use Rattle.std.proofs.Common.{◌≡◌, ◌≢◌, ℕ, ◌<◌, ◌≤◌, ◌+◌, ◌^◌, true, false, Bool, refl, sym, ◌∙◌, ap, subst, arith, List, [], ◌∷◌, ◌++◌, Option, Some, None}
 use Rattle.std.specs.FinMap as objects
 use Rattle.std.proofs.lemmas.List.{length-set}
 use Rattle.kv_device.specs.Machine.{changes_of}
 use Rattle.std.proofs.Common.{unwrap_or}
-use Rattle.kv_device.specs.Objects.{Objects}
 use Rattle.kfs_objects.specs.Keys.{inode_key, entry_key, chunk_key, orphan_key}
 use Rattle.kfs_objects.specs.Records.{entry_value, orphan_value}
 use Rattle.kfs_model.specs.declared.Node.{Node}
@@ -22,7 +21,7 @@ use Rattle.kfs_shows.proofs.Renaming.{moves_entry}
 use Rattle.kfs_shows.proofs.Replacing.{keys_apart}
 use Rattle.kfs_shows.proofs.Dropping as dropping
 use Rattle.kfs_shows.proofs.Leaving.{leaves_less, unlinked_kept, unlinked_dropped, moved, moved_kept, moved_dropped}
-use Rattle.kfs_tx.specs.Run.{Run, IsReady, seen, changed_keys, put_in, deleted_in}
+use Rattle.kfs_tx.specs.Run.{Run, IsReady, seen, put_in, deleted_in}
 use Rattle.kfs_tx.proofs.Seeing.{ready_put, seen_put, keys_put, ready_deleted, seen_deleted}
 use Rattle.kfs_file.specs.Contents.{pending_of, ChangesAtMost}
 use Rattle.kfs_core.specs.Stands.{Stands}

@@ -1,27 +1,25 @@
 -- What the judges of removal answer over the objects is what the tree's definitions say.
-use Rattle.std.proofs.Common.{◌≡◌, ◌≢◌, ℕ, suc, ◌<◌, ◌≤◌, ◌+◌, ◌||◌, ◌&&◌, ◌==◌, not, true, false, cond, Bool, inl, inr, refl, sym, ◌∙◌, ap, subst, arith, List, [], ◌∷◌, ◌++◌, length, map, take, Option, Some, None, is_some, Result, Ok, Err, nat_lt}
-use Rattle.std.specs.List.{AllByRecursion, filter_map}
+use Rattle.std.proofs.Common.{◌≡◌, ℕ, suc, ◌<◌, ◌||◌, not, true, false, refl, sym, ◌∙◌, ap, subst, arith, List, [], ◌∷◌, ◌++◌, length, map, take, Option, Some, None, is_some, Result, Ok, nat_lt}
+use Rattle.std.specs.List.{AllByRecursion}
 use Rattle.std.specs.Option.{option_map, option_and_then}
 use Rattle.std.proofs.lemmas.Bool.Decides.{nat_tests}
 use Rattle.std.proofs.lemmas.Option.{same_Some}
-use Rattle.kv_device.specs.Objects.{Objects, pairs_from}
-use Rattle.kfs_objects.specs.Keys.{entry_key}
+use Rattle.kv_device.specs.Objects.{Objects}
 use Rattle.kfs_path.specs.declared.call.Errno.{Errno}
 use Rattle.kfs_path.specs.declared.call.Errno.TheVariants.{ENOENT, ENOTDIR, EPERM, EBUSY, EINVAL, ENOTEMPTY, EFBIG}
 use Rattle.kfs_path.specs.declared.call.Reply.TheVariants as replies
 use Rattle.kfs_model.specs.declared.Node.{Node}
 use Rattle.kfs_model.specs.declared.Node.TheVariants.{Dir, File}
 use Rattle.kfs_model.specs.Ladder.{◌>>=◌, ◌>>◌, ◌when◌}
-use Rattle.kfs_model.specs.Tree.{Place, Name, Tree, child, names_in, entry_at, walk, without_place, greatest_length, is_dot, is_dot_dot, IsName, number_at, node_of}
+use Rattle.kfs_model.specs.Tree.{Place, Name, Tree, names_in, entry_at, walk, without_place, greatest_length, is_dot, is_dot_dot, IsName, number_at, node_of}
 use Rattle.kfs_model.specs.Desk.{Desk}
 use Rattle.kfs_model.specs.Step.{After, Route, syntax, swept, leaves_swept, unlink, rmdir_at, is_there, is_dir, is_file, has_dir, has_file, isnt_empty, is_root, ends_by, ends_in_dots}
 use Rattle.kfs_laws.proofs.Moves.{listed}
 use Rattle.kfs_core.specs.Stands.{Stands}
-use Rattle.kfs_core.specs.Flat.{Where, at_root, walk_in, found_in}
-use Rattle.kfs_core.specs.Making.{parent_of}
+use Rattle.kfs_core.specs.Flat.{Where, at_root, walk_in}
 use Rattle.kfs_core.specs.Removing.{Leaf, leaf_at, has_names, file_to_go, dir_to_go, unlink_in, rmdir_in}
 use Rattle.kfs_core.proofs.Pieces.{IsPart}
-use Rattle.kfs_core.proofs.Ways.{IsSpot, kind_of, walks, root_spot}
+use Rattle.kfs_core.proofs.Ways.{kind_of, walks, root_spot}
 use Rattle.kfs_core.proofs.Judges.{syntax_named, found_at, seen_as}
 use Rattle.kfs_core.proofs.Children.{child_of, kids, kids_names, pairs_same}
 use Rattle.kfs_core.proofs.Ladders.{SameAs, same_when, same_right, same_walk}

@@ -1,5 +1,5 @@
 -- What the judge of renaming answers over the objects is what the tree's definition says.
-use Rattle.std.proofs.Common.{◌≡◌, ◌≢◌, ℕ, zero, suc, ◌<◌, ◌≤◌, ◌+◌, ◌||◌, ◌&&◌, ◌==◌, not, true, false, cond, Bool, inl, inr, refl, sym, ◌∙◌, ap, subst, arith, List, [], ◌∷◌, ◌++◌, length, take, drop, get_or, take-append-drop, Option, Some, None, is_some, Result, Ok, Err, nat_lt}
+use Rattle.std.proofs.Common.{◌≡◌, ◌≢◌, ℕ, zero, suc, ◌<◌, ◌≤◌, ◌+◌, ◌||◌, ◌&&◌, ◌==◌, not, true, false, cond, Bool, inl, inr, refl, sym, ◌∙◌, ap, subst, arith, List, [], ◌∷◌, ◌++◌, length, take, drop, get_or, take-append-drop, Option, Some, None, is_some, Result, Ok, nat_lt}
 use Rattle.std.specs.List.{AllByRecursion, filter_map, list_any, cons_option}
 use Rattle.std.specs.Option.{option_map, option_and_then}
 use Rattle.std.specs.FinMap.{find}
@@ -17,7 +17,7 @@ use Rattle.kfs_path.specs.declared.call.Reply.TheVariants as replies
 use Rattle.kfs_model.specs.declared.Node.{Node}
 use Rattle.kfs_model.specs.declared.Node.TheVariants.{Dir, File}
 use Rattle.kfs_model.specs.Ladder.{◌>>=◌, ◌>>◌, ◌when◌}
-use Rattle.kfs_model.specs.Tree.{Place, Name, Tree, place_cmp, below, child, names_in, entry_at, walk, without_place, renamed, greatest_length, IsName, number_at, node_of}
+use Rattle.kfs_model.specs.Tree.{Place, Name, Tree, place_cmp, below, child, entry_at, walk, without_place, renamed, IsName, number_at, node_of}
 use Rattle.kfs_model.specs.Desk.{Desk}
 use Rattle.kfs_model.specs.Step.{World, After, Route, syntax, swept, leaves_swept, answers, rename, or_else, is_there, is_dir, is_file, has_dir, has_file, isnt_empty, is_same_place, is_root, ends_in_dots}
 use Rattle.kfs_model.proofs.Renaming.{below-append}
@@ -25,9 +25,9 @@ use Rattle.kfs_laws.proofs.Moves.{below_is, below_itself}
 use Rattle.kfs_laws.proofs.Unnaming.{stays_other}
 use Rattle.kfs_shows.proofs.Lookups.{places_total, same_places, tie_test, decide_place}
 use Rattle.kfs_core.specs.Stands.{Stands}
-use Rattle.kfs_core.specs.Flat.{Where, at_root, walk_in, found_in}
+use Rattle.kfs_core.specs.Flat.{Where, at_root, walk_in}
 use Rattle.kfs_core.specs.Making.{parent_of}
-use Rattle.kfs_core.specs.Removing.{Leaf, leaf_at, has_names}
+use Rattle.kfs_core.specs.Removing.{Leaf}
 use Rattle.kfs_core.specs.Renaming.{Move, is_dir_found, is_file_found, isnt_empty_found, is_long_found, is_same_spot, replaced_at, move_at, clear_in, onto_in, from_in, rename_in}
 use Rattle.kfs_core.proofs.Pieces.{IsPart, ok_is}
 use Rattle.kfs_core.proofs.Ways.{IsSpot, kind_of, walks, root_spot}

@@ -1,5 +1,5 @@
 -- What giving a file a length is judged by over the objects, and what it leaves.
-use Rattle.std.proofs.Common.{◌≡◌, ◌≢◌, ℕ, ◌<◌, ◌≤◌, ◌+◌, ◌-◌, ◌/◌, ◌^◌, ◌&&◌, not, true, false, Bool, refl, sym, ◌∙◌, ap, subst, arith, List, [], ◌++◌, length, take, replicate, Some, Ok, nat_lt, nat_le}
+use Rattle.std.proofs.Common.{◌≡◌, ◌≢◌, ℕ, ◌<◌, ◌≤◌, ◌+◌, ◌-◌, ◌^◌, ◌&&◌, not, true, false, Bool, refl, sym, ◌∙◌, ap, subst, arith, List, [], ◌++◌, length, take, replicate, Some, Ok, nat_lt, nat_le}
 use Rattle.std.specs.Prelude.{pos}
 use Rattle.std.specs.FinMap as objects
 use Rattle.std.proofs.lemmas.Bool.Decides.{nat_tests}
@@ -14,20 +14,18 @@ use Rattle.kfs_model.specs.Tree.{Tree, Limits, charge, chunks, with_node, resize
 use Rattle.kfs_model.specs.Step.{World, content, lengthened}
 use Rattle.kfs_model.proofs.Fits.{charge_written}
 use Rattle.kfs_laws.proofs.Lookups.{number_put_same}
-use Rattle.kfs_shows.specs.Shows.{ShowsTree, IsPiece}
+use Rattle.kfs_shows.specs.Shows.{IsPiece}
 use Rattle.kfs_shows.specs.Laws.{PutsContent}
 use Rattle.kfs_shows.specs.Sweeping.{ShowsWorld, with_tree}
 use Rattle.kfs_shows.proofs.Content.{still_tree, still_shows, node_before}
 use Rattle.kfs_shows.proofs.KeysApart.{kinds}
 use Rattle.kfs_shows.proofs.Lookups.{key_put, key_other}
-use Rattle.kfs_tx.specs.Run.{Run, IsReady, seen, changed_keys}
+use Rattle.kfs_tx.specs.Run.{Run, IsReady, seen}
 use Rattle.kfs_tx.proofs.Seeing.{ready_put, seen_put, keys_put}
-use Rattle.kfs_file.specs.Contents.{pending_of, ChangesAtMost}
 use Rattle.kfs_file.proofs.Resizing.{length_resized}
 use Rattle.kfs_core.specs.declared.room.Space.{Space}
 use Rattle.kfs_core.specs.Stands.{Stands}
-use Rattle.kfs_core.specs.Flat.{inode_in}
-use Rattle.kfs_core.specs.Files.{file_at, with_length}
+use Rattle.kfs_core.specs.Files.{with_length}
 use Rattle.kfs_core.specs.Room.{chunks_for}
 use Rattle.kfs_core.specs.Resizing.{resized_fits, resize_in, keys_cut, PutsLength}
 use Rattle.kfs_core.proofs.FileJudges.{node_low, file_there, content_is, holds_file}

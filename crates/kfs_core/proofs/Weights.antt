@@ -1,12 +1,12 @@
 -- The weights of removals, renames, last closes and new lengths are those that the code counts.
-use Rattle.std.proofs.Common.{◌≡◌, ◌≢◌, ℕ, ◌<◌, ◌≤◌, ◌+◌, ◌-◌, ◌*◌, ◌/◌, ◌&&◌, not, true, false, cond, Bool, refl, sym, ◌∙◌, ap, subst, arith, List, length, Option, Some, None, Ok, is_some, nat_lt, Result}
+use Rattle.std.proofs.Common.{◌≡◌, ◌≢◌, ℕ, ◌<◌, ◌+◌, ◌-◌, ◌*◌, ◌/◌, ◌&&◌, not, true, false, cond, Bool, refl, ◌∙◌, ap, arith, List, length, Option, Some, None, Ok, is_some, nat_lt}
 use Rattle.std.specs.Option.{option_map, option_and_then}
 use Rattle.std.proofs.lemmas.Bool.Decides.{nat_tests}
 use Rattle.kfs_path.specs.Pieces.{pieces_of}
 use Rattle.kfs_path.specs.declared.call.Call.TheVariants as calls
 use Rattle.kfs_path.specs.declared.call.Reply.TheVariants as replies
 use Rattle.kfs_model.specs.declared.Node.{Node}
-use Rattle.kfs_model.specs.Tree.{Tree, Place, charge, chunks, renamed, without_place, walk, entry_at, IsTree, number_at, node_of}
+use Rattle.kfs_model.specs.Tree.{Tree, Place, chunks, renamed, without_place, walk, IsTree, number_at, node_of}
 use Rattle.kfs_model.specs.Step.{World, is_there, swept}
 use Rattle.kfs_model.specs.Change.{weight, resizing, has_left, place_of}
 use Rattle.kfs_laws.proofs.Moves.{renamed_leaves}

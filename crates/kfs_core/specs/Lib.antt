@@ -13,4 +13,6 @@ pub mod Removing
 pub mod Renaming
 pub mod Resizing
 pub mod Listing
+pub mod Working
 pub mod Starting
+pub mod Bounds

@@ -6,6 +6,8 @@ use Rattle.kfs_objects.specs.Keys.{entry_key}
 use Rattle.kfs_objects.specs.Records.{read_entry}
 use Rattle.kfs_path.specs.declared.call.TreeItem.{TreeItem}
 use Rattle.kfs_model.specs.Tree.{Place}
+use Rattle.kfs_core.specs.declared.fault.CoreFault.{CoreFault}
+use Rattle.kfs_core.specs.declared.fault.CoreFault.TheVariants.{No, Device}
 use Rattle.kfs_core.specs.declared.tree.Pending.{Pending}
 use Rattle.kfs_core.specs.Flat.{inode_in}
 
@@ -42,3 +44,8 @@ pub data Lists (m : Objects) : List At → List TreeItem → Type 0 where
 -- all places, from the root on
 abbrev pub ListsAll : Objects → List TreeItem → Type 0
 ListsAll m items = Lists m (([], 1) ∷ []) items
+
+-- no error of a call, since none comes here
+abbrev pub IsOfDevice : CoreFault → Type 0
+IsOfDevice (No errno) = ⊥
+IsOfDevice (Device fault) = Unit {0}

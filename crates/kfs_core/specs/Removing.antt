@@ -1,5 +1,5 @@
 -- A name is taken away, and its node goes, or stays without a name while it is open.
-use Rattle.std.specs.Prelude.{ℕ, ◌≡◌, ◌+◌, ◌-◌, ◌==◌, ◌⊎◌, nat_lt, Bool, true, false, not, ◌&&◌, ◌||◌, List, [], ◌∷◌, length, take, Option, Some, None, Result, Ok, Err, if◌then◌else◌}
+use Rattle.std.specs.Prelude.{ℕ, ◌≡◌, ◌+◌, ◌-◌, ◌==◌, ◌⊎◌, nat_lt, Bool, true, false, not, ◌||◌, List, [], length, take, Option, Some, None, Result, Ok, Err, if◌then◌else◌}
 use Rattle.std.specs.List.{list_any}
 use Rattle.std.specs.Str.{bytes_eq}
 use Rattle.kv_device.specs.declared.fault.DeviceFault.{DeviceFault}
@@ -10,7 +10,7 @@ use Rattle.kfs_objects.specs.Records.{orphan_value}
 use Rattle.kfs_path.specs.declared.call.Errno.{Errno}
 use Rattle.kfs_path.specs.declared.call.Errno.TheVariants.{ENOENT, ENOTDIR, EPERM, EBUSY, EINVAL, ENOTEMPTY, EFBIG}
 use Rattle.kfs_model.specs.Ladder.{◌>>=◌, ◌>>◌, ◌when◌}
-use Rattle.kfs_model.specs.Tree.{Name, greatest_length, is_dot, is_dot_dot}
+use Rattle.kfs_model.specs.Tree.{greatest_length, is_dot, is_dot_dot}
 use Rattle.kfs_model.specs.Step.{Route, is_root, ends_by, ends_in_dots}
 use Rattle.kfs_tx.specs.Run.{Run, put_in, deleted_in, one_change, GetFault, ChangeFault}
 use Rattle.kfs_file.specs.Contents.{RemovesChunks, ChangesAtMost, Fails}
@@ -19,7 +19,7 @@ use Rattle.kfs_core.specs.declared.fault.CoreFault.TheVariants.{No, Device}
 pub use Rattle.kfs_core.specs.declared.removing.Leaf.{Leaf}
 pub use Rattle.kfs_core.specs.Room.{chunks_for}
 use Rattle.kfs_core.specs.Core.{KfsState, run_in, Stays}
-use Rattle.kfs_core.specs.Flat.{Where, at_root, walk_in, found_in, inode_in}
+use Rattle.kfs_core.specs.Flat.{Where, at_root, walk_in, found_in}
 use Rattle.kfs_core.specs.Making.{parent_of}
 
 -- whether the list of open nodes, each in 8 bytes, has the node

@@ -1,5 +1,5 @@
 -- An entry moves, and what it replaces loses its name.
-use Rattle.std.specs.Prelude.{ℕ, ◌≡◌, ◌+◌, ◌-◌, ◌==◌, ◌⊎◌, nat_lt, Bool, true, false, not, ◌&&◌, ◌||◌, List, [], ◌∷◌, Option, Some, None, IfSome, ◌≤◌, Result, Ok, Err, if◌then◌else◌}
+use Rattle.std.specs.Prelude.{ℕ, ◌≡◌, ◌+◌, ◌==◌, ◌⊎◌, nat_lt, Bool, false, not, ◌&&◌, ◌||◌, Option, Some, None, IfSome, ◌≤◌, Result, Ok, Err, if◌then◌else◌}
 use Rattle.std.specs.List.{list_any}
 use Rattle.std.specs.Option.{option_map, option_and_then}
 use Rattle.std.specs.Str.{bytes_eq}
@@ -11,7 +11,7 @@ use Rattle.kfs_objects.specs.Records.{entry_value}
 use Rattle.kfs_path.specs.declared.call.Errno.{Errno}
 use Rattle.kfs_path.specs.declared.call.Errno.TheVariants.{ENOENT, ENOTDIR, EBUSY, EINVAL, EISDIR, ENOTEMPTY, EFBIG}
 use Rattle.kfs_model.specs.Ladder.{◌>>=◌, ◌>>◌, ◌when◌}
-use Rattle.kfs_model.specs.Tree.{Name, greatest_length}
+use Rattle.kfs_model.specs.Tree.{greatest_length}
 use Rattle.kfs_model.specs.Step.{Route, is_root, ends_in_dots, or_else}
 use Rattle.kfs_tx.specs.Run.{Run, put_in, deleted_in, one_change, GetFault, ChangeFault}
 use Rattle.kfs_file.specs.Contents.{Fails}

@@ -1,6 +1,7 @@
 //! The tree over a running transaction.
 #![tactic(auto)]
 
+mod bounds;
 mod clearing;
 mod counting;
 mod directories;
@@ -18,7 +19,9 @@ mod resizing;
 mod room;
 mod tree;
 mod walking;
+mod working;
 
+pub use bounds::transactions_are_small;
 pub use fault::{CoreFault, HostFault};
 pub use formatting::format;
 pub use kfs::Kfs;

@@ -111,3 +111,26 @@ fn a_write_takes_what_there_is_room_for(rt: HostRuntime) -> Result<(), Fail> {
     );
     Ok(())
 }
+
+#[test]
+fn each_place_is_told(rt: HostRuntime) -> Result<(), Fail> {
+    let alloc = rt.alloc();
+    let Some(mut kfs) = with_file(alloc, 100, 10) else {
+        panic!(&rt; "no file");
+    };
+    let Ok(path) = Path::read(alloc, b"/d") else {
+        panic!(&rt; "no path");
+    };
+    assert!(&rt; kfs.mkdir(alloc, &path).is_ok());
+    assert!(&rt; kfs.work(alloc, 1).is_ok());
+    let Ok(tree) = kfs.tree(alloc) else {
+        panic!(&rt; "not told");
+    };
+    let items = tree.items();
+    assert_eq!(&rt; items.len(), 3);
+    assert_eq!(&rt; items[0].path.len(), 0);
+    assert!(&rt; !items[1].file);
+    assert!(&rt; items[2].file);
+    transactions_are_small();
+    Ok(())
+}

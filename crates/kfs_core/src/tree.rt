@@ -6,7 +6,7 @@ ghost use Rattle.kfs_tx.specs.Run.{age_of, Aged, seen, GetFault};
 ghost use Rattle.kfs_core.specs.Core.{run_in, Stays};
 ghost use Rattle.kfs_core.specs.Flat.{inode_in};
 ghost use Rattle.kfs_core.specs.Gives.{Leaves};
-ghost use Rattle.kfs_core.specs.Listing.{ListsAll, at_of, item_at, pairs_below, place_below, right_below};
+ghost use Rattle.kfs_core.specs.Listing.{IsOfDevice, ListsAll, at_of, item_at, pairs_below, place_below, right_below};
 
 use crate::walking::inode;
 use crate::{CoreFault, Kfs};
@@ -31,6 +31,7 @@ impl<D: Device> Kfs<D> {
         requires { age_of self.old.running < 2 ^ 63 - 2 ^ 39 }
         ensures lists { IfOk result (ListsAll (seen (run_in self.old))) }
         ensures leaves { Leaves (run_in self.old) result (run_in self.new) }
+        ensures err { IfErr result IsOfDevice }
         ensures rest { Stays self.old self.new }
         ensures age { Aged self.old.running self.new.running 0 }
     {

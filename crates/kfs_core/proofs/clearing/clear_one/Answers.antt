@@ -1,15 +1,12 @@
-use Rattle.std.proofs.Common.{◌≡◌, ◌+◌, ℕ, ◌<◌, ◌^◌, Some, ◌∙◌, sym, ap, refl, subst, arith}
+use Rattle.std.proofs.Common.{◌≡◌, ◌+◌, Some, ◌∙◌, sym, ap, subst, arith}
 use Rattle.std.specs.Option.{option_map}
 use Rattle.std.proofs.lemmas.Result.{err_from_is_err_and}
 use Rattle.kfs_objects.specs.declared.records.Inode.{Inode}
-use Rattle.kfs_objects.specs.Keys.{orphan_key}
-use Rattle.kfs_tx.specs.Run.{Run, committed, deleted_in, seen, CommitFault}
-use Rattle.kfs_core.specs.Clearing.{ClearFails}
+use Rattle.kfs_tx.specs.Run.{Run, committed, seen, CommitFault}
 use Rattle.kfs_core.specs.Flat.{inode_in}
 use Rattle.kfs_core.specs.Removing.{Goes, chunks_for}
-use Rattle.kfs_file.specs.Contents.{Fails, RemoveFault}
+use Rattle.kfs_file.specs.Contents.{Fails}
 use Rattle.kfs_core.proofs.Cleared.{orphan_spelled, one_cleared, commit_clears, fails_clear}
-use Rattle.kfs_core.proofs.Dropped.{goes_follows}
 use Rattle.kfs_core.proofs.clearing.clear_one.Goals as goal
 
 pub returns-in_err-drop_node-clause-err : goal.returns-in_err-drop_node-clause-err

@@ -1,6 +1,6 @@
-use Rattle.std.proofs.Common.{◌≡◌, List, ℕ, map, take, ◌∙◌, sym, ap, subst, IsSome, [], ◌∷◌}
+use Rattle.std.proofs.Common.{List, ℕ, take, ◌∙◌, sym, ap, subst, IsSome, [], ◌∷◌}
 use Rattle.std.specs.FinMap as objects
-use Rattle.kv_device.specs.Objects.{pairs_from, pair_of}
+use Rattle.kv_device.specs.Objects.{pairs_from}
 use Rattle.kfs_tx.specs.Run.{seen}
 use Rattle.kfs_core.proofs.Orphans.{first_there, none_there}
 use Rattle.kfs_core.proofs.clearing.first_orphan.Goals as goal

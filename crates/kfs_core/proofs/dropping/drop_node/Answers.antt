@@ -1,7 +1,7 @@
 use Rattle.std.proofs.Common.{◌+◌, arith}
-use Rattle.std.proofs.lemmas.Result.{on_ok_weaker, IfErr-weaker, err_from_is_err_and}
+use Rattle.std.proofs.lemmas.Result.{on_ok_weaker, IfErr-weaker}
 use Rattle.kfs_objects.specs.Keys.{inode_key}
-use Rattle.kfs_file.proofs.Failing.{fails_after, fails_weaker}
+use Rattle.kfs_file.proofs.Failing.{fails_after}
 use Rattle.kfs_core.specs.Removing.{chunks_for}
 use Rattle.kfs_core.proofs.Dropped.{deletion_fails}
 use Rattle.kfs_core.proofs.dropping.drop_node.Goals as goal

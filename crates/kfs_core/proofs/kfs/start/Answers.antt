@@ -1,6 +1,6 @@
 use Rattle.std.proofs.Common.{◌∙◌, ap, subst}
 use Rattle.kfs_tx.specs.Run.{Run}
-use Rattle.kfs_core.specs.Clearing.{Clears, with_stable}
+use Rattle.kfs_core.specs.Clearing.{Clears}
 use Rattle.kfs_core.specs.Counted.{charge_in, chunks_in}
 use Rattle.kfs_core.proofs.Cleared.{sees_now, now_cleared}
 use Rattle.kfs_core.proofs.kfs.start.Goals as goal

@@ -1,7 +1,7 @@
-use Rattle.std.proofs.Common.{ℕ, ◌≡◌, ◌+◌, inl, inr, ◌∙◌, ap, subst, sym, arith}
+use Rattle.std.proofs.Common.{ℕ, ◌≡◌, ◌+◌, inl, inr, ◌∙◌, ap, subst, arith}
 use Rattle.std.proofs.lemmas.Result.{err_from_is_err_and}
 use Rattle.kfs_objects.specs.Keys.{orphan_key}
-use Rattle.kfs_tx.specs.Run.{Run, one_change, deleted_in, ChangeFault}
+use Rattle.kfs_tx.specs.Run.{Run, one_change, ChangeFault}
 use Rattle.kfs_file.proofs.Failing.{fails_weaker}
 use Rattle.kfs_core.specs.Removing.{chunks_for}
 use Rattle.kfs_core.proofs.Dropped.{goes_follows, deletion_fails}

@@ -1,7 +1,6 @@
-use Rattle.std.proofs.Common.{ℕ, ◌≡◌, ◌+◌, inr, ◌∙◌, ap, subst, sym, arith}
+use Rattle.std.proofs.Common.{ℕ, ◌+◌, inr, ◌∙◌, subst}
 use Rattle.std.proofs.lemmas.Result.{err_from_is_err_and}
-use Rattle.kfs_tx.specs.Run.{Run, one_change, ChangeFault}
-use Rattle.kfs_core.specs.Removing.{chunks_gone}
+use Rattle.kfs_tx.specs.Run.{one_change, ChangeFault}
 use Rattle.kfs_core.proofs.removing.take_name.Goals as goal
 
 pub returns-in_err-change-clause-err : goal.returns-in_err-change-clause-err

@@ -2,7 +2,7 @@ use Rattle.std.proofs.Common.{◌+◌, arith, subst, sym}
 use Rattle.std.proofs.lemmas.Result.{IfErr-weaker, err_from_is_err_and}
 use Rattle.kfs_objects.specs.Keys.{entry_key}
 use Rattle.kfs_file.proofs.Failing.{fails_weaker}
-use Rattle.kfs_tx.specs.Run.{Run, deleted_in}
+use Rattle.kfs_tx.specs.Run.{Run}
 use Rattle.kfs_core.specs.Removing.{chunks_gone}
 use Rattle.kfs_core.proofs.Dropped.{Follows, deletion_fails, follows_deleted}
 use Rattle.kfs_core.proofs.Naming.{follows_none, fails_following}

@@ -1,8 +1,5 @@
-use Rattle.std.proofs.Common.{◌≡◌, ◌+◌, ◌++◌, ℕ, refl, sym, ◌∙◌, ap, subst, arith, List, [], ◌∷◌, length, map, reverse}
-use Rattle.kv_device.specs.Objects.{Objects}
-use Rattle.kfs_path.specs.declared.call.TreeItem.{TreeItem}
+use Rattle.std.proofs.Common.{◌≡◌, ◌++◌, refl, ◌∙◌, subst, arith, List, [], ◌∷◌, length, map, reverse}
 use Rattle.kfs_tx.specs.Run.{Run, seen}
-use Rattle.kfs_core.specs.declared.tree.Pending.{Pending}
 use Rattle.kfs_core.specs.Flat.{inode_in}
 use Rattle.kfs_core.specs.Listing.{at_of, item_at, right_below}
 use Rattle.kfs_core.proofs.Telling.{leads_end, leads_on}
