@@ -32,7 +32,6 @@ use Rattle.kfs_posix.specs.Book.{Book, SessionState, state_of, book_of, running_
 use Rattle.kfs_posix.specs.Answering.{Counts, KeepsCause, refusal, down_after}
 use Rattle.kfs_posix.specs.Looking.{found_by, names_by, told_by}
 use Rattle.std.proofs.lemmas.Bool.Decides.{nat_tests}
-use Rattle.kfs_posix.specs.Built.{is_built}
 use Rattle.kfs_posix.specs.Showing.{ShowsLive, GoesOn}
 use Rattle.std.specs.Prelude.{IsSome}
 use Rattle.kfs_posix.proofs.Going.{spare, idle_goes, down_goes}
@@ -214,54 +213,6 @@ pub told_file : (n kind size : ℕ) → kind ≢ 1 → replies.File n size ≡ t
 told_file n kind size e = let t : (kind == 1) ≡ false = grind (arith, nat_tests) in ap (λ b. cond b (replies.Dir n) (replies.File n size)) (sym t)
 
 -- ---- the call that is named
-
--- no call of another kind
-pub record IsOther (call : Call) : Type 0 where
-  pub mkdir : (p : List ℕ) → call ≢ calls.Mkdir p
-  pub stat : (p : List ℕ) → call ≢ calls.Stat p
-  pub list : (p : List ℕ) → call ≢ calls.List p
-  pub opened : (p : List ℕ) (flags : Flags) → call ≢ calls.Open p flags
-  pub close : (fd : ℕ) → call ≢ calls.Close fd
-  pub dup : (fd : ℕ) → call ≢ calls.Dup fd
-  pub lseek : (fd : ℕ) (whence : Whence) (offset : ℤ) → call ≢ calls.Lseek fd whence offset
-  pub fstat : (fd : ℕ) → call ≢ calls.Fstat fd
-  pub fsync : (fd : ℕ) → call ≢ calls.Fsync fd
-  pub read : (fd count : ℕ) → call ≢ calls.Read fd count
-  pub pread : (fd count : ℕ) (offset : ℤ) → call ≢ calls.Pread fd count offset
-  pub write : (fd : ℕ) (bytes : Data) → call ≢ calls.Write fd bytes
-  pub pwrite : (fd : ℕ) (bytes : Data) (offset : ℤ) → call ≢ calls.Pwrite fd bytes offset
-  pub unlink : (p : List ℕ) → call ≢ calls.Unlink p
-  pub rmdir : (p : List ℕ) → call ≢ calls.Rmdir p
-  pub rename : (p q : List ℕ) → call ≢ calls.Rename p q
-  pub room : call ≢ calls.Room
-
-pub sync_alone : (call : Call) → is_built call ≡ true → IsOther call → call ≡ calls.Sync
-sync_alone (calls.Mkdir p) b other = absurd (other.mkdir p refl)
-sync_alone (calls.Stat p) b other = absurd (other.stat p refl)
-sync_alone (calls.List p) b other = absurd (other.list p refl)
-sync_alone (calls.Open p flags) b other = absurd (other.opened p flags refl)
-sync_alone (calls.Close fd) b other = absurd (other.close fd refl)
-sync_alone (calls.Dup fd) b other = absurd (other.dup fd refl)
-sync_alone (calls.Lseek fd whence offset) b other = absurd (other.lseek fd whence offset refl)
-sync_alone (calls.Fstat fd) b other = absurd (other.fstat fd refl)
-sync_alone (calls.Fsync fd) b other = absurd (other.fsync fd refl)
-sync_alone (calls.Read fd count) b other = absurd (other.read fd count refl)
-sync_alone (calls.Pread fd count offset) b other = absurd (other.pread fd count offset refl)
-sync_alone (calls.Write fd bytes) b other = absurd (other.write fd bytes refl)
-sync_alone (calls.Pwrite fd bytes offset) b other = absurd (other.pwrite fd bytes offset refl)
-sync_alone (calls.Unlink p) b other = absurd (other.unlink p refl)
-sync_alone (calls.Rmdir p) b other = absurd (other.rmdir p refl)
-sync_alone (calls.Rename p q) b other = absurd (other.rename p q refl)
-sync_alone calls.Sync b other = refl
-sync_alone calls.Room b other = absurd (other.room refl)
-sync_alone call b other = absurd (let e : false ≡ true = b in cc)
-
-pub built_whole : (flags : Flags) → not flags.trunc ≡ true → flags.trunc ≡ false
-built_whole flags e = by flags.trunc e
-  where
-    by : (b : Bool) → not b ≡ true → b ≡ false
-    by true e = absurd (cc)
-    by false e = refl
 
 pub named_goes : (old new : Book) (k j : Call) (reply : Reply) → k ≡ j → GoesOn old (lines.Call k) (answers.Reply reply) new → GoesOn old (lines.Call j) (answers.Reply reply) new
 named_goes old new k j reply e goes = subst (λ k. GoesOn old (lines.Call k) (answers.Reply reply) new) e goes

@@ -1,5 +1,5 @@
 -- Answered calls, and calls in which the session goes down, as events of a life.
-use Rattle.std.proofs.Common.{◌≡◌, ℕ, suc, List, ◌<◌, ◌≤◌, ◌+◌, ◌-◌, ◌^◌, ◌&&◌, ◌⊎◌, inl, inr, true, false, cond, Bool, refl, sym, ◌∙◌, ap, subst, arith, [], ◌∷◌, Option, Some, None, is_some}
+use Rattle.std.proofs.Common.{◌≡◌, ℕ, suc, List, min, ◌<◌, ◌≤◌, ◌+◌, ◌-◌, ◌^◌, ◌&&◌, ◌⊎◌, inl, inr, true, false, cond, Bool, refl, sym, ◌∙◌, ap, subst, arith, [], ◌∷◌, Option, Some, None, is_some}
 use Rattle.std.specs.Ordering.{nat_cmp}
 use Rattle.std.specs.Option.{option_map}
 use Rattle.std.specs.FinMap.{find}
@@ -205,14 +205,15 @@ stood_down new live call after cause stands down is behind keys pages (as_synced
       pages = pages;
     }))
 
-rose : (old new most : ℕ) (armed : Bool) → most ≤ old + one_if armed → old ≤ most → most < 2 ^ 63 → (new ≤ most) × ((old < new) ⊎ (2 ^ 64 - 1 ≤ old)) → (armed ≡ true) × (most ≤ new)
-rose old new most armed le counted few rises = by armed le rises.1
+rose : (old new most : ℕ) (armed : Bool) → most ≤ old + one_if armed → old ≤ most → most < 2 ^ 63 → (new ≤ most) × (min (old + 1) (2 ^ 64 - 1) ≤ new) → (armed ≡ true) × (most ≤ new)
+rose old new most armed le counted few rises = by armed le
   where
-    by : (armed : Bool) → most ≤ old + one_if armed → (old < new) ⊎ (2 ^ 64 - 1 ≤ old) → (armed ≡ true) × (most ≤ new)
-    by true le (inl lt) = (refl, omega arith)
-    by true le (inr top) = absurd (omega arith)
-    by false le (inl lt) = absurd (let h = rises.0 in omega arith)
-    by false le (inr top) = absurd (omega arith)
+    more : old < new
+    more = let least = rises.1 in let t : old < new = omega arith in t
+
+    by : (armed : Bool) → most ≤ old + one_if armed → (armed ≡ true) × (most ≤ new)
+    by true le = (refl, omega arith)
+    by false le = absurd (let h = rises.0 in omega arith)
 
 both_true : (a b : Bool) → a ≡ true → b ≡ true → (a && b) ≡ true
 both_true a b e f = λ i. (e i && f i)

@@ -8,6 +8,7 @@ pub mod Calls
 pub mod Turns
 pub mod OpenJudges
 pub mod OpenGoes
+pub mod OpenParts
 pub mod Events
 pub mod ReadGoes
 pub mod WriteJudges
@@ -34,3 +35,8 @@ pub mod CloseGoes
 pub mod CloseAnswers
 pub mod RenameGoes
 pub mod RenameAnswers
+pub mod WholeAnswers
+pub mod ResizeJudges
+pub mod ResizeGoes
+pub mod ResizeEvents
+pub mod ResizeAnswers

@@ -1,38 +1,44 @@
 -- `open` of a session as an event of a life.
-use Rattle.std.proofs.Common.{◌≡◌, ℕ, ◌<◌, ◌≤◌, ◌+◌, ◌^◌, true, false, Bool, refl, sym, ◌∙◌, ap, subst, arith, List, [], Some, None, Result, Ok, Err}
+use Rattle.std.proofs.Common.{◌≡◌, ℕ, ◌<◌, ◌+◌, ◌^◌, ◌&&◌, true, refl, sym, ◌∙◌, ap, subst, arith, List, [], length, Some, None, Result, Ok, Err, nat_le}
 use Rattle.std.specs.Ordering.{nat_cmp}
 use Rattle.std.specs.FinMap.{find, put}
 use Rattle.kv_device.specs.declared.fault.DeviceFault.{DeviceFault}
-use Rattle.kv_device.specs.Objects.{Objects}
 use Rattle.kfs_path.specs.declared.call.Call.{Call}
 use Rattle.kfs_path.specs.declared.call.Call.TheVariants as calls
 use Rattle.kfs_path.specs.declared.call.Errno.{Errno}
 use Rattle.kfs_path.specs.declared.call.Flags.{Flags}
 use Rattle.kfs_path.specs.declared.call.Reply.TheVariants as replies
-use Rattle.kfs_model.specs.declared.Description.{Description}
 use Rattle.kfs_model.specs.declared.Node.TheVariants.{File}
 use Rattle.kfs_model.specs.declared.Line.TheVariants as lines
 use Rattle.kfs_model.specs.declared.Answer.TheVariants as answers
-use Rattle.kfs_model.specs.Tree.{Tree, charge, with_new}
-use Rattle.kfs_model.specs.Step.{After, settled, step, open_path, opens}
+use Rattle.kfs_model.specs.Tree.{Tree, with_new, with_node, resized}
+use Rattle.kfs_model.specs.Step.{settled, step, open_path, opens}
+use Rattle.kfs_model.specs.Desk.{Desk}
+use Rattle.kfs_model.specs.Change.{node_open}
 use Rattle.kfs_model.specs.Life.{Live}
 use Rattle.kfs_shows.proofs.Making.{fresh_file}
 use Rattle.kfs_tx.specs.Run.{seen, GetFault}
+use Rattle.kfs_core.specs.declared.room.Space.{Space}
+use Rattle.kfs_core.proofs.ResizingJudges.{charge_resized, chunks_resized}
 use Rattle.kfs_core.specs.Flat.{Where}
 use Rattle.kfs_core.specs.Making.{parent_of, created, CreateFault}
 use Rattle.kfs_posix.specs.declared.open_files.OpenFile.{OpenFile}
-use Rattle.kfs_posix.specs.Opens.{Opens, desk_of, opened_as}
-use Rattle.kfs_posix.specs.Opening.{Opening, New, There, opened_file, open_in}
+use Rattle.kfs_posix.specs.Opens.{Opens, desk_of, opened_as, relengthed}
+use Rattle.kfs_posix.specs.Opening.{Opening, New, There, Cut, opened_file, open_in}
 use Rattle.kfs_posix.specs.Holding.{Holds}
 use Rattle.kfs_posix.specs.Book.{Book, limits_of, cause_of}
 use Rattle.kfs_posix.specs.Showing.{ShowsLive, GoesOn}
 use Rattle.kfs_posix.proofs.Held.{world_in, new_holds}
-use Rattle.kfs_posix.proofs.OpenJudges.{Meaning, meaning, open_same, opened_desk, opened_holds, fresh_knows, there_weighs, new_weighs}
+use Rattle.kfs_posix.proofs.OpenJudges.{Meaning, meaning, space_for, open_same, cut_fits, opened_desk, opened_holds, opened_node, fresh_knows, there_weighs, new_weighs, cut_weighs}
+use Rattle.kfs_posix.proofs.WriteJudges.{relengthed_desk}
+use Rattle.kfs_posix.proofs.WriteEvents.{space_of}
+use Rattle.kfs_posix.proofs.ResizeGoes.{Lengthens}
+use Rattle.kfs_posix.proofs.ResizeEvents.{length_weighs, length_holds}
 use Rattle.kfs_posix.proofs.Adding.{Adds, add_goes, add_falls}
 use Rattle.kfs_posix.proofs.Going.{spare, spare_free, idle_goes, turn_goes}
 use Rattle.kfs_posix.proofs.Calls.{stands_of, any_cause, unread_falls}
 
-module _ (old : Book) (path : List ℕ) (flags : Flags) (whole : flags.trunc ≡ false) where
+module _ (old : Book) (path : List ℕ) (flags : Flags) where
   abbrev call : Call
   call = calls.Open path flags
 
@@ -40,20 +46,21 @@ module _ (old : Book) (path : List ℕ) (flags : Flags) (whole : flags.trunc ≡
   o = old.files
 
   abbrev pub judge : Result Opening Errno
-  judge = open_in (seen old.run) old.keys old.charge o path flags
+  judge = open_in (seen old.run) (space_of old) o path flags
 
   -- what the judge means in the tree that is shown
-  means : (d : ℕ) (live : Live) (sh : ShowsLive old live) → Meaning (seen old.run) live.world.tree (stands_of old live sh) (limits_of old) o d flags whole (open_path (limits_of old) d (world_in live.world.tree o) path flags) judge
+  means : (d : ℕ) (live : Live) (sh : ShowsLive old live) → Meaning (seen old.run) live.world.tree (stands_of old live sh) (limits_of old) sh.room o d flags (open_path (limits_of old) d (world_in live.world.tree o) path flags) judge
   means d live sh =
       let t = live.world.tree in
       let m = seen old.run in
       let stands = stands_of old live sh in
       let effect = open_path (limits_of old) d (world_in t o) path flags in
-      subst (λ c. Meaning m t stands (limits_of old) o d flags whole effect (open_in m old.keys c o path flags)) (sym sh.charged)
-      (meaning m t stands (limits_of old) o d flags whole effect (open_in m old.keys (charge t) o path flags) (open_same m t stands (limits_of old) o d flags whole path))
+      let space_is : space_for (limits_of old) t ≡ space_of old = λ i. record { keys = old.keys; pages = old.pages; charge = sym sh.charged i; chunks = sym sh.chunked i } in
+      subst (λ (s : Space). Meaning m t stands (limits_of old) sh.room o d flags effect (open_in m s o path flags)) space_is
+      (meaning m t stands (limits_of old) sh.room o d flags effect (open_in m (space_for (limits_of old) t) o path flags) (open_same m t stands (limits_of old) sh.room o d flags path))
 
-  means_at : (d : ℕ) (live : Live) (sh : ShowsLive old live) (r : Result Opening Errno) → judge ≡ r → Meaning (seen old.run) live.world.tree (stands_of old live sh) (limits_of old) o d flags whole (open_path (limits_of old) d (world_in live.world.tree o) path flags) r
-  means_at d live sh r is = subst (Meaning (seen old.run) live.world.tree (stands_of old live sh) (limits_of old) o d flags whole (open_path (limits_of old) d (world_in live.world.tree o) path flags)) is (means d live sh)
+  means_at : (d : ℕ) (live : Live) (sh : ShowsLive old live) (r : Result Opening Errno) → judge ≡ r → Meaning (seen old.run) live.world.tree (stands_of old live sh) (limits_of old) sh.room o d flags (open_path (limits_of old) d (world_in live.world.tree o) path flags) r
+  means_at d live sh r is = subst (Meaning (seen old.run) live.world.tree (stands_of old live sh) (limits_of old) sh.room o d flags (open_path (limits_of old) d (world_in live.world.tree o) path flags)) is (means d live sh)
 
   stepped : (d : ℕ) (live : Live) (sh : ShowsLive old live) → step (limits_of old) d live.world call ≡ settled (world_in live.world.tree o) (open_path (limits_of old) d (world_in live.world.tree o) path flags)
   stepped d live sh = λ i. step (limits_of old) d (record { tree = live.world.tree; desk = sh.desk i }) call
@@ -101,6 +108,30 @@ module _ (old : Book) (path : List ℕ) (flags : Flags) (whole : flags.trunc ≡
   pub open_new_goes : (fd d : ℕ) (v : Where) → find nat_cmp d o.files ≡ None → old.down ≡ None → old.run.next + 1 < 2 ^ 63 → old.run.changes + 1 < 2 ^ 63 → judge ≡ Ok (New v fd)
       → GoesOn old (lines.Call call) (answers.Reply (replies.Number fd)) (record old { run = created old.run (parent_of v) v.name; charge = old.charge + 2; files = opened_as o fd d new_file })
   open_new_goes fd d v free up low count is = add_goes old 2 (File []) fresh_file refl refl v low count call (replies.Number fd) (opened_as o fd d new_file) d free up (adds fd d v free is)
+
+  -- ---- a file that is cut to no bytes
+
+  abbrev pub cut_files : ℕ → ℕ → OpenFile → Opens
+  cut_files fd d file = relengthed (opened_as o fd d file) file.it.node 0
+
+  pub cuts : (fd d : ℕ) (file : OpenFile) (was : ℕ) → find nat_cmp d o.files ≡ None → judge ≡ Ok (Cut fd file was) → (live : Live) → ShowsLive old live → Lengthens old file.it.node was 0 call (replies.Number fd) (cut_files fd d file) d live
+  cuts fd d file was free is live sh =
+      let h = means_at d live sh (Ok (Cut fd file was)) is in
+      let t = live.world.tree in
+      let n = file.it.node in
+      let desk_is = relengthed_desk (opened_as o fd d file) n 0 in
+      record {
+        bytes = h.0;
+        file = h.3;
+        was_is = h.4;
+        step_is = stepped d live sh ∙ ap (settled (world_in t o)) h.5 ∙ opened_is t (with_node t n (File [])) fd d file h.6
+            ∙ (λ i. record { world = record { tree = with_node t n (File []); desk = sym desk_is i }; reply = replies.Number fd });
+        weighs = cut_weighs live.world path flags n (File (resized h.0 0)) (desk_of (cut_files fd d file)) fd (ap (λ (desk : Desk). node_open desk fd) desk_is ∙ opened_node o fd d file)
+            ∙ length_weighs t n h.0 was 0 h.3 h.4;
+        holds = length_holds t (opened_as o fd d file) n h.0 0 h.3 (opened_holds t o fd d file sh.holds h.1 free h.2);
+        short = omega arith;
+        room = (λ i. nat_le (charge_resized t sh.tree n h.0 h.3 0 i) old.keys && nat_le (chunks_resized t sh.tree n h.0 h.3 0 i) old.pages) ∙ cut_fits (limits_of old) t sh.room (length h.0);
+      }
 
   pub open_unread : (new : Book) (fault : DeviceFault) → old.down ≡ None → new.down ≡ Some (cause_of fault) → limits_of new ≡ limits_of old → GetFault old.run fault new.run.machine → GoesOn old (lines.Call call) (answers.Reply (replies.Down (cause_of fault))) new
   open_unread new fault up down same h = unread_falls old new call fault (λ w cause. any_cause w call refl refl refl cause) up down same h

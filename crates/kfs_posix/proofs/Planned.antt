@@ -11,7 +11,7 @@ use Rattle.kfs_model.specs.declared.Line.TheVariants as lines
 use Rattle.kfs_model.specs.declared.Answer.TheVariants as answers
 use Rattle.kfs_model.specs.Tree.{Tree}
 use Rattle.kfs_model.specs.Desk.{Desk, is_open}
-use Rattle.kfs_model.specs.Step.{World, After, step}
+use Rattle.kfs_model.specs.Step.{World, After}
 use Rattle.kfs_model.specs.Change.{weight, is_boundary}
 use Rattle.kfs_model.specs.Life.{Live, can_fail}
 use Rattle.kfs_shows.specs.Sweeping.{ShowsWorld}
@@ -52,7 +52,7 @@ changed_same old mid same n next =
     let h = (one_same mid n next).0 in
     record { up = h.up ∙ ap (λ (r : Run). r.machine.up) same; cuts = h.cuts ∙ ap (λ (r : Run). r.machine.cuts) same; faults = h.faults ∙ ap (λ (r : Run). r.machine.faults) same }
 
-changed_bounds : (old mid : Run) → mid ≡ pending_of mid old → (n next : ℕ) → SameBounds old.machine (one_change mid n next).machine
+pub changed_bounds : (old mid : Run) → mid ≡ pending_of mid old → (n next : ℕ) → SameBounds old.machine (one_change mid n next).machine
 changed_bounds old mid same n next =
     let h = (one_same mid n next).1 in
     record {
@@ -70,7 +70,7 @@ pub change_caused : (old mid : Run) (n next : ℕ) (fault : DeviceFault) (new : 
 change_caused old mid n next fault new same (inl h) = caused_from old mid fault new same h.1
 change_caused old mid n next fault new same (inr h) = caused_from old mid fault new same h.1.1
 
-fallen_from : (old mid : Run) (fault : DeviceFault) (stands : Objects) (new : Machine) → mid ≡ pending_of mid old → HasCause mid.machine fault new → new.stable ≡ stands → SameBounds mid.machine new → Fallen old.machine fault stands new
+pub fallen_from : (old mid : Run) (fault : DeviceFault) (stands : Objects) (new : Machine) → mid ≡ pending_of mid old → HasCause mid.machine fault new → new.stable ≡ stands → SameBounds mid.machine new → Fallen old.machine fault stands new
 fallen_from old mid fault stands new same cause is bounds = record {
   cause = by fault (subst (λ (r : Run). HasCause r.machine fault new) same cause);
   stable = is;

@@ -1,11 +1,10 @@
 -- `write` and `pwrite` of a session as events of a life.
-use Rattle.std.proofs.Common.{◌≡◌, ◌≢◌, ℕ, ◌<◌, ◌≤◌, ◌+◌, ◌-◌, ◌^◌, ◌==◌, ◌&&◌, inl, inr, true, false, cond, not, min, max, Bool, refl, sym, ◌∙◌, ap, subst, arith, List, length, take, Option, Some, None, Result, Ok, Err, nat_lt, nat_le, ℤ}
+use Rattle.std.proofs.Common.{◌≡◌, ℕ, ◌<◌, ◌≤◌, ◌+◌, ◌-◌, ◌==◌, ◌&&◌, true, false, cond, not, max, Bool, refl, sym, ◌∙◌, ap, subst, arith, List, length, take, Option, Some, None, Result, Ok, Err, nat_lt, nat_le, ℤ}
 use Rattle.std.specs.Ordering.{nat_cmp}
 use Rattle.std.specs.Option.{option_map, option_and_then}
 use Rattle.std.specs.FinMap.{find, put}
 use Rattle.std.proofs.lemmas.Bool.Decides.{nat_tests}
 use Rattle.std.proofs.lemmas.List.{length-take-le}
-use Rattle.kv_device.specs.declared.fault.DeviceFault.{DeviceFault}
 use Rattle.kfs_path.specs.Pieces.{is_empty}
 use Rattle.kfs_path.specs.declared.call.Call.{Call}
 use Rattle.kfs_path.specs.declared.call.Call.TheVariants as calls
@@ -19,16 +18,16 @@ use Rattle.kfs_model.specs.declared.Node.TheVariants.{File}
 use Rattle.kfs_model.specs.declared.Line.TheVariants as lines
 use Rattle.kfs_model.specs.declared.Answer.TheVariants as answers
 use Rattle.kfs_model.specs.Ladder.{◌>>=◌, ◌>>◌, ◌when◌, bind_ok}
-use Rattle.kfs_model.specs.Tree.{Tree, Limits, node_of, with_node, written, fits, charge, chunks, greatest_length, has_room}
+use Rattle.kfs_model.specs.Tree.{Tree, node_of, with_node, written, fits, charge, chunks, greatest_length, has_room}
 use Rattle.kfs_model.specs.Desk.{Desk, opened, with_description}
 use Rattle.kfs_model.specs.Step.{World, After, settled, step, or_else, writes, content, greatest_count, with_offset, is_negative, natural, leaves, answers as answered_by}
-use Rattle.kfs_model.specs.Change.{weight, spanned, writing, offset_of}
+use Rattle.kfs_model.specs.Change.{spanned, writing, offset_of}
 use Rattle.kfs_model.specs.Life.{Live}
 use Rattle.kfs_tx.specs.Run.{seen}
 use Rattle.kfs_core.specs.declared.room.Space.{Space}
 use Rattle.kfs_core.specs.Files.{file_at, write_in}
 use Rattle.kfs_core.specs.Flat.{inode_in}
-use Rattle.kfs_core.specs.Room.{grown, fits_in}
+use Rattle.kfs_core.specs.Room.{fits_in}
 use Rattle.kfs_core.proofs.FileEffects.{grown_is}
 use Rattle.kfs_core.proofs.FileJudges.{content_is, write_answers, write_size}
 use Rattle.kfs_core.proofs.Fitting.{IsSpaceOf, fits_same}
@@ -40,9 +39,9 @@ use Rattle.kfs_posix.specs.Turning.{at_offset}
 use Rattle.kfs_posix.specs.Writing.{writable_in, writable_at, place_of, behind, moved_behind}
 use Rattle.kfs_posix.specs.Book.{Book, limits_of}
 use Rattle.kfs_posix.specs.Showing.{ShowsLive, GoesOn}
-use Rattle.kfs_posix.proofs.Held.{world_in, described, file_is, described_is, descriptor_is, with_file_desk, file_holds, moved_knows, content_known}
+use Rattle.kfs_posix.proofs.Held.{world_in, file_is, descriptor_is, with_file_desk, file_holds, moved_knows, content_known}
 use Rattle.kfs_posix.proofs.ReadGoes.{file_bytes}
-use Rattle.kfs_posix.proofs.WriteJudges.{relengthed_knows, same_it, relengthed_desk, relengthed_at, relengthed_holds, moved_is, fits_short, fits_room, as_described, writable, writable_same, writable_is, writes_some, wrote_after}
+use Rattle.kfs_posix.proofs.WriteJudges.{relengthed_knows, same_it, relengthed_desk, relengthed_at, relengthed_holds, moved_is, fits_short, fits_room, as_described, writable_same, writable_is, writes_some, wrote_after}
 use Rattle.kfs_posix.proofs.WriteGoes.{Puts}
 use Rattle.kfs_posix.proofs.Going.{spare, idle_goes}
 use Rattle.kfs_posix.proofs.Calls.{stands_of}
@@ -51,7 +50,7 @@ abbrev pub space_of : Book → Space
 space_of b = record { keys = b.keys; pages = b.pages; charge = b.charge; chunks = b.chunks }
 
 -- a writer is looked up, and then writes
-looked_up : (x : Option (ℕ × Description)) (f : ℕ × Description → Result After Errno) → (or_else x EBADF >>= λ it. (EBADF when not it.1.write) >> f it) ≡ ((or_else x EBADF >>= λ it. (EBADF when not it.1.write) >> Ok it) >>= f)
+pub looked_up : {X : Type 0} (x : Option (ℕ × Description)) (f : ℕ × Description → Result X Errno) → (or_else x EBADF >>= λ it. (EBADF when not it.1.write) >> f it) ≡ ((or_else x EBADF >>= λ it. (EBADF when not it.1.write) >> Ok it) >>= f)
 looked_up None f = refl
 looked_up (Some it) f = by (not it.1.write)
   where

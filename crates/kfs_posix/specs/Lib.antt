@@ -3,7 +3,6 @@ pub mod Looking
 pub mod Showing
 pub mod Mounting
 pub mod Answering
-pub mod Built
 pub mod Opens
 pub mod Holding
 pub mod Removing
@@ -13,3 +12,5 @@ pub mod Turning
 pub mod Opening
 pub mod Reading
 pub mod Writing
+pub mod Resizing
+pub mod Bounds

@@ -5,6 +5,7 @@ ghost use Rattle.kfs_posix.specs.Answering.{Counts, KeepsCause};
 
 use crate::closing::close;
 use crate::reading::{pread, read};
+use crate::resizing::ftruncate;
 use crate::session::{Session, refuse};
 use crate::turning::{dup, fstat, lseek};
 use crate::writing::{filled, pwrite, write};
@@ -169,6 +170,25 @@ impl<D: Device> Session<D> {
         }
         match pwrite(alloc, &mut self.kfs, &mut self.files, fd, bytes, offset) {
             Ok(count) => Reply::Number(count),
+            Err(fault) => refuse(&mut self.down, fault),
+        }
+    }
+
+    /// Gives a descriptor's file a length in bytes: it is cut short, or zeros follow. Errors: EBADF where it
+    /// isn't open for writing, EINVAL where negative, EFBIG above 1,048,576, ENOSPC without room.
+    pub fn ftruncate(&mut self, alloc: Global, fd: u32, length: i64) -> Reply
+        requires { age_of (running_in self.old) < 2 ^ 63 - 2 ^ 40 }
+        ensures goes_on { GoesOn self.old.book (lines.Call (calls.Ftruncate fd length)) (answers.Reply result) self.new.book }
+        ensures counts { Counts self.old.book.run.machine result self.new.book.run.machine }
+        ensures room { limits_of self.new.book ≡ limits_of self.old.book }
+        ensures down { KeepsCause self.old.book result self.new.book }
+        ensures age { Aged (running_in self.old) (running_in self.new) (2 ^ 38) }
+    {
+        if self.down.is_some() {
+            return Reply::Off;
+        }
+        match ftruncate(alloc, &mut self.kfs, &mut self.files, fd, length) {
+            Ok(()) => Reply::Done,
             Err(fault) => refuse(&mut self.down, fault),
         }
     }

@@ -1,10 +1,11 @@
 // The calls by paths.
-ghost use Rattle.std.specs.Prelude.{◌≡◌, ◌≤◌, ◌<◌, ◌+◌, ◌-◌, ◌^◌, false};
+ghost use Rattle.std.specs.Prelude.{◌≡◌, ◌≤◌, ◌<◌, ◌+◌, ◌-◌, ◌^◌};
 ghost use Rattle.kfs_tx.specs.Run.{age_of, Aged};
 ghost use Rattle.kfs_posix.specs.Answering.{Counts, KeepsCause};
 
 use crate::opening::open;
 use crate::paths::{found, make, names};
+use crate::resizing::truncate;
 use crate::session::{Session, refuse};
 use kfs_path::{Flags, Reply};
 use kv_device::Device;
@@ -80,10 +81,9 @@ impl<D: Device> Session<D> {
         }
     }
 
-    /// Opens what a path names, and makes a file where the flags say so.
+    /// Opens what a path names, and makes a file or cuts it to no bytes where the flags say so.
     pub fn open(&mut self, alloc: Global, path: &[u8], flags: Flags) -> Reply
-        requires whole { flags.trunc ≡ false }
-        requires age { age_of (running_in self.old) < 2 ^ 63 - 2 ^ 40 }
+        requires { age_of (running_in self.old) < 2 ^ 63 - 2 ^ 40 }
         ensures goes_on { GoesOn self.old.book (lines.Call (calls.Open path.now flags)) (answers.Reply result) self.new.book }
         ensures counts { Counts self.old.book.run.machine result self.new.book.run.machine }
         ensures room { limits_of self.new.book ≡ limits_of self.old.book }
@@ -95,6 +95,26 @@ impl<D: Device> Session<D> {
         }
         match open(alloc, &mut self.kfs, &mut self.files, path, flags) {
             Ok(fd) => Reply::Number(u64::from(fd)),
+            Err(fault) => refuse(&mut self.down, fault),
+        }
+    }
+
+    /// Gives the file that a path names a length in bytes: it is cut short, or zeros follow. Errors: EINVAL
+    /// where negative, those of the path, EISDIR, ENOTDIR for a file with a trailing slash, EFBIG above
+    /// 1,048,576, ENOSPC without room.
+    pub fn truncate(&mut self, alloc: Global, path: &[u8], length: i64) -> Reply
+        requires { age_of (running_in self.old) < 2 ^ 63 - 2 ^ 40 }
+        ensures goes_on { GoesOn self.old.book (lines.Call (calls.Truncate path.now length)) (answers.Reply result) self.new.book }
+        ensures counts { Counts self.old.book.run.machine result self.new.book.run.machine }
+        ensures room { limits_of self.new.book ≡ limits_of self.old.book }
+        ensures down { KeepsCause self.old.book result self.new.book }
+        ensures age { Aged (running_in self.old) (running_in self.new) (2 ^ 38) }
+    {
+        if self.down.is_some() {
+            return Reply::Off;
+        }
+        match truncate(alloc, &mut self.kfs, &mut self.files, path, length) {
+            Ok(()) => Reply::Done,
             Err(fault) => refuse(&mut self.down, fault),
         }
     }

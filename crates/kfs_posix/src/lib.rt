@@ -1,6 +1,7 @@
 //! Sessions: the file calls over a device.
 #![tactic(auto)]
 
+mod bounds;
 mod by_descriptor;
 mod by_name;
 mod by_path;
@@ -11,11 +12,14 @@ mod paths;
 mod reading;
 mod removing;
 mod renaming;
+mod resizing;
 mod session;
 mod turning;
+mod whole;
 mod writing;
 
-pub use kfs_core::HostFault;
+pub use bounds::sessions_are_light;
+pub use kfs_core::{HostFault, transactions_are_small};
 pub use session::Session;
 
 #[cfg(test)]

@@ -1,10 +1,12 @@
 // Opening what a path names.
-ghost use Rattle.std.specs.Prelude.{◌≡◌, ◌<◌, ◌-◌, ◌==◌, ◌^◌, All, false};
+ghost use Rattle.std.specs.Prelude.{◌≡◌, ◌≤◌, ◌<◌, ◌-◌, ◌^◌, All, OnOk, IfOk, IfErr};
 ghost use Rattle.kfs_objects.specs.Keys.{IsNamed};
 ghost use Rattle.kfs_tx.specs.Run.{age_of, Aged, seen};
 ghost use Rattle.kfs_core.specs.Core.{run_in};
+ghost use Rattle.kfs_core.specs.Gives.{Gives, IsOwn};
+ghost use Rattle.kfs_core.specs.Room.{space_in};
 ghost use Rattle.kfs_core.specs.Spot.{route_of};
-ghost use Rattle.kfs_posix.specs.Opening.{opened_file, is_contrary, barred, open_there_in, open_new_in, open_at_in, open_in, OpensThere, OpenDoes};
+ghost use Rattle.kfs_posix.specs.Opening.{opened_file, is_contrary, barred, free_for_in, open_there_in, open_new_in, open_at_in, open_in, OpenDoes};
 
 use crate::open_files::{OpenFile, OpenFiles};
 use crate::paths::syntax;
@@ -59,17 +61,19 @@ fn opened_file(node: u64, file: bool, length: u64, flags: Flags) -> OpenFile
     }
 }
 
-/// Opens a node that is there.
-fn open_there(
+/// The lowest free descriptor, where a node that is there may be opened; there is room for a description then.
+fn free_for(
     files: &mut OpenFiles,
-    node: u64,
-    inode: Inode,
+    is_dir: bool,
     trailing: bool,
     flags: Flags,
 ) -> Result<u32, CoreFault>
-    ensures { OpensThere files.old.opens (open_there_in files.old.opens node inode.kind inode.length trailing flags) result files.new.opens }
+    ensures gives { Gives (λ fd. fd) result (free_for_in files.old.opens is_dir trailing flags) }
+    ensures own { IfErr result IsOwn }
+    ensures low { IfOk result (λ fd. fd < 64) }
+    ensures room { OnOk result (1 ≤ files.new.spare) }
+    ensures same { files.new.opens ≡ files.old.opens }
 {
-    let is_dir = inode.kind == 1;
     if let Some(errno) = barred(is_dir, trailing, flags) {
         return Err(CoreFault::No(errno));
     }
@@ -77,7 +81,35 @@ fn open_there(
         return Err(CoreFault::No(Errno::EMFILE));
     };
     files.reserve()?;
-    files.open(fd, opened_file(node, !is_dir, inode.length, flags));
+    Ok(fd)
+}
+
+/// Opens a node that is there, and cuts it to no bytes where the flags say so.
+fn open_there<D: Device>(
+    alloc: Global,
+    kfs: &mut Kfs<D>,
+    files: &mut OpenFiles,
+    node: u64,
+    inode: Inode,
+    trailing: bool,
+    flags: Flags,
+) -> Result<u32, CoreFault>
+    requires age { age_of kfs.old.running < 2 ^ 63 - 2 ^ 39 }
+    ensures does { OpenDoes kfs.old files.old.opens flags (open_there_in (seen (run_in kfs.old)) (space_in kfs.old) files.old.opens node inode.kind inode.length trailing flags) result kfs.new files.new.opens }
+    ensures keys { kfs.new.keys ≡ kfs.old.keys }
+    ensures pages { kfs.new.pages ≡ kfs.old.pages }
+    ensures age { Aged kfs.old.running kfs.new.running (2 ^ 17) }
+{
+    let is_dir = inode.kind == 1;
+    let fd = free_for(files, is_dir, trailing, flags)?;
+    let file = opened_file(node, !is_dir, inode.length, flags);
+    if !flags.trunc {
+        files.open(fd, file);
+        return Ok(fd);
+    }
+    kfs.set_length(alloc, node, 0)?;
+    files.open(fd, file);
+    files.set_length(node, 0);
     Ok(fd)
 }
 
@@ -91,11 +123,10 @@ fn open_new<D: Device>(
 ) -> Result<u32, CoreFault>
     requires age { age_of kfs.old.running < 2 ^ 63 - 2 ^ 39 }
     requires named { All IsNamed path.now.pieces }
-    ensures does { OpenDoes (run_in kfs.old) kfs.old.charge files.old.opens flags (open_new_in (seen (run_in kfs.old)) kfs.old.keys kfs.old.charge files.old.opens (route_of path.now) flags) result (run_in kfs.new) kfs.new.charge files.new.opens }
-    ensures chunks { kfs.new.chunks ≡ kfs.old.chunks }
+    ensures does { OpenDoes kfs.old files.old.opens flags (open_new_in (seen (run_in kfs.old)) (space_in kfs.old) files.old.opens (route_of path.now) flags) result kfs.new files.new.opens }
     ensures keys { kfs.new.keys ≡ kfs.old.keys }
     ensures pages { kfs.new.pages ≡ kfs.old.pages }
-    ensures age { Aged kfs.old.running kfs.new.running (2 ^ 16) }
+    ensures age { Aged kfs.old.running kfs.new.running (2 ^ 17) }
 {
     if !flags.creat || path.trailing {
         return Err(CoreFault::No(Errno::ENOENT));
@@ -119,15 +150,14 @@ fn open_at<D: Device>(
 ) -> Result<u32, CoreFault>
     requires age { age_of kfs.old.running < 2 ^ 63 - 2 ^ 39 }
     requires named { All IsNamed path.now.pieces }
-    ensures does { OpenDoes (run_in kfs.old) kfs.old.charge files.old.opens flags (open_at_in (seen (run_in kfs.old)) kfs.old.keys kfs.old.charge files.old.opens (route_of path.now) flags) result (run_in kfs.new) kfs.new.charge files.new.opens }
-    ensures chunks { kfs.new.chunks ≡ kfs.old.chunks }
+    ensures does { OpenDoes kfs.old files.old.opens flags (open_at_in (seen (run_in kfs.old)) (space_in kfs.old) files.old.opens (route_of path.now) flags) result kfs.new files.new.opens }
     ensures keys { kfs.new.keys ≡ kfs.old.keys }
     ensures pages { kfs.new.pages ≡ kfs.old.pages }
-    ensures age { Aged kfs.old.running kfs.new.running (2 ^ 16) }
+    ensures age { Aged kfs.old.running kfs.new.running (2 ^ 17) }
 {
     match kfs.find(alloc, path)? {
         None => open_new(alloc, kfs, files, path, flags),
-        Some((node, inode)) => open_there(files, node, inode, path.trailing, flags),
+        Some((node, inode)) => { open_there(alloc, kfs, files, node, inode, path.trailing, flags) }
     }
 }
 
@@ -140,11 +170,10 @@ pub fn open<D: Device>(
     flags: Flags,
 ) -> Result<u32, CoreFault>
     requires age { age_of kfs.old.running < 2 ^ 63 - 2 ^ 39 }
-    ensures does { OpenDoes (run_in kfs.old) kfs.old.charge files.old.opens flags (open_in (seen (run_in kfs.old)) kfs.old.keys kfs.old.charge files.old.opens path.now flags) result (run_in kfs.new) kfs.new.charge files.new.opens }
-    ensures chunks { kfs.new.chunks ≡ kfs.old.chunks }
+    ensures does { OpenDoes kfs.old files.old.opens flags (open_in (seen (run_in kfs.old)) (space_in kfs.old) files.old.opens path.now flags) result kfs.new files.new.opens }
     ensures keys { kfs.new.keys ≡ kfs.old.keys }
     ensures pages { kfs.new.pages ≡ kfs.old.pages }
-    ensures age { Aged kfs.old.running kfs.new.running (2 ^ 16) }
+    ensures age { Aged kfs.old.running kfs.new.running (2 ^ 17) }
 {
     if is_contrary(flags) {
         return Err(CoreFault::No(Errno::EINVAL));

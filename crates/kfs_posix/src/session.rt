@@ -66,7 +66,6 @@ impl<D: Device> Session<D> {
     ghost use Rattle.kfs_model.specs.declared.Line.TheVariants as lines;
     ghost use Rattle.kfs_model.specs.declared.Answer.TheVariants as answers;
     ghost use Rattle.kfs_posix.specs.Book.{running_in, limits_of};
-    ghost use Rattle.kfs_posix.specs.Built.{is_built};
     ghost use Rattle.kfs_core.specs.Clearing.{Keeps};
     ghost use Rattle.kfs_posix.specs.Mounting.{Mounts};
     ghost use Rattle.kfs_posix.specs.Showing.{GoesOn};
@@ -128,9 +127,8 @@ impl<D: Device> Session<D> {
         self.kfs.room()
     }
 
-    /// Does the call that is named, one of those that are built.
+    /// Does the call that is named.
     pub fn step(&mut self, alloc: Global, call: &Call) -> Reply
-        requires built { is_built call.now ≡ true }
         requires room { self.old.book.keys ≤ 68544 }
         requires age { age_of (running_in self.old) < 2 ^ 63 - 2 ^ 40 }
         ensures goes_on { GoesOn self.old.book (lines.Call call.now) (answers.Reply result) self.new.book }
@@ -153,11 +151,15 @@ impl<D: Device> Session<D> {
             Call::Pread { fd, count, offset } => self.pread(alloc, *fd, *count, *offset),
             Call::Write { fd, bytes } => self.write_data(alloc, *fd, bytes),
             Call::Pwrite { fd, bytes, offset } => self.pwrite_data(alloc, *fd, bytes, *offset),
+            Call::Truncate { path, length } => self.truncate(alloc, path.bytes(), *length),
+            Call::Ftruncate { fd, length } => self.ftruncate(alloc, *fd, *length),
             Call::Unlink { path } => self.unlink(alloc, path.bytes()),
             Call::Rmdir { path } => self.rmdir(alloc, path.bytes()),
             Call::Rename { old, new } => self.rename(alloc, old.bytes(), new.bytes()),
             Call::Room => self.room(),
-            _ => self.sync(alloc),
+            Call::Tree => self.tree(alloc),
+            Call::Work { operations } => self.work(alloc, *operations),
+            Call::Sync => self.sync(alloc),
         }
     }
 

@@ -28,7 +28,7 @@ fn writable(files: &OpenFiles, fd: u32) -> Result<(u64, OpenFile), Errno>
 }
 
 /// The same at a given place.
-fn writable_at(files: &OpenFiles, fd: u32, offset: i64) -> Result<(u64, OpenFile), Errno>
+pub fn writable_at(files: &OpenFiles, fd: u32, offset: i64) -> Result<(u64, OpenFile), Errno>
     ensures { result ≡ writable_at files.now.opens fd offset }
 {
     let it = writable(files, fd)?;

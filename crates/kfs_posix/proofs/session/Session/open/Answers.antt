@@ -20,34 +20,34 @@ pub returns-then-is_some-clause-age : goal.returns-then-is_some-clause-age
 returns-then-is_some-clause-age g c = aged_none _
 
 pub open-requires : goal.open-requires
-open-requires g c = record { age = age_in c.args.self.now c.self.inside.kfs c.self.inside.files.opens c.self.inside.down c.self.view_is c.requires.age }
+open-requires g c = record { age = age_in c.args.self.now c.self.inside.kfs c.self.inside.files.opens c.self.inside.down c.self.view_is c.requires }
 
 pub invariant_of-self-in-Err : goal.invariant_of-self-in-Err
-invariant_of-self-in-Err g c = (open_failed c.args.self.now c.self.inside.kfs c.open.new.kfs c.self.inside.files.opens c.open.new.files.opens c.self.inside.down c.self.view_is (none_of c.self.inside.down c.if-is_some.ensures) (c.self.invariant (none_of c.self.inside.down c.if-is_some.ensures)) c.requires.age c.in-Err.ensures.keys c.in-Err.ensures.pages c.in-Err.ensures.chunks c.args.path.now c.args.flags c.requires.whole c.in-Err.fault c.refuse.result c.refuse.new.down c.in-Err.ensures.does c.refuse.ensures.reply c.refuse.ensures.down).awake
+invariant_of-self-in-Err g c = (open_failed c.args.self.now c.self.inside.kfs c.open.new.kfs c.self.inside.files.opens c.open.new.files.opens c.self.inside.down c.self.view_is (none_of c.self.inside.down c.if-is_some.ensures) (c.self.invariant (none_of c.self.inside.down c.if-is_some.ensures)) c.requires c.in-Err.ensures.keys c.in-Err.ensures.pages c.args.path.now c.args.flags c.in-Err.fault c.refuse.result c.refuse.new.down c.in-Err.ensures.does c.refuse.ensures.reply c.refuse.ensures.down).awake
 
 pub returns-in-Err-clause-goes_on : goal.returns-in-Err-clause-goes_on
-returns-in-Err-clause-goes_on g c = (open_failed c.args.self.now c.self.inside.kfs c.open.new.kfs c.self.inside.files.opens c.open.new.files.opens c.self.inside.down c.self.view_is (none_of c.self.inside.down c.if-is_some.ensures) (c.self.invariant (none_of c.self.inside.down c.if-is_some.ensures)) c.requires.age c.in-Err.ensures.keys c.in-Err.ensures.pages c.in-Err.ensures.chunks c.args.path.now c.args.flags c.requires.whole c.in-Err.fault c.refuse.result c.refuse.new.down c.in-Err.ensures.does c.refuse.ensures.reply c.refuse.ensures.down).goes
+returns-in-Err-clause-goes_on g c = (open_failed c.args.self.now c.self.inside.kfs c.open.new.kfs c.self.inside.files.opens c.open.new.files.opens c.self.inside.down c.self.view_is (none_of c.self.inside.down c.if-is_some.ensures) (c.self.invariant (none_of c.self.inside.down c.if-is_some.ensures)) c.requires c.in-Err.ensures.keys c.in-Err.ensures.pages c.args.path.now c.args.flags c.in-Err.fault c.refuse.result c.refuse.new.down c.in-Err.ensures.does c.refuse.ensures.reply c.refuse.ensures.down).goes
 
 pub returns-in-Err-clause-counts : goal.returns-in-Err-clause-counts
-returns-in-Err-clause-counts g c = (open_failed c.args.self.now c.self.inside.kfs c.open.new.kfs c.self.inside.files.opens c.open.new.files.opens c.self.inside.down c.self.view_is (none_of c.self.inside.down c.if-is_some.ensures) (c.self.invariant (none_of c.self.inside.down c.if-is_some.ensures)) c.requires.age c.in-Err.ensures.keys c.in-Err.ensures.pages c.in-Err.ensures.chunks c.args.path.now c.args.flags c.requires.whole c.in-Err.fault c.refuse.result c.refuse.new.down c.in-Err.ensures.does c.refuse.ensures.reply c.refuse.ensures.down).counts
+returns-in-Err-clause-counts g c = (open_failed c.args.self.now c.self.inside.kfs c.open.new.kfs c.self.inside.files.opens c.open.new.files.opens c.self.inside.down c.self.view_is (none_of c.self.inside.down c.if-is_some.ensures) (c.self.invariant (none_of c.self.inside.down c.if-is_some.ensures)) c.requires c.in-Err.ensures.keys c.in-Err.ensures.pages c.args.path.now c.args.flags c.in-Err.fault c.refuse.result c.refuse.new.down c.in-Err.ensures.does c.refuse.ensures.reply c.refuse.ensures.down).counts
 
 pub returns-in-Err-clause-down : goal.returns-in-Err-clause-down
-returns-in-Err-clause-down g c = (open_failed c.args.self.now c.self.inside.kfs c.open.new.kfs c.self.inside.files.opens c.open.new.files.opens c.self.inside.down c.self.view_is (none_of c.self.inside.down c.if-is_some.ensures) (c.self.invariant (none_of c.self.inside.down c.if-is_some.ensures)) c.requires.age c.in-Err.ensures.keys c.in-Err.ensures.pages c.in-Err.ensures.chunks c.args.path.now c.args.flags c.requires.whole c.in-Err.fault c.refuse.result c.refuse.new.down c.in-Err.ensures.does c.refuse.ensures.reply c.refuse.ensures.down).keeps
+returns-in-Err-clause-down g c = (open_failed c.args.self.now c.self.inside.kfs c.open.new.kfs c.self.inside.files.opens c.open.new.files.opens c.self.inside.down c.self.view_is (none_of c.self.inside.down c.if-is_some.ensures) (c.self.invariant (none_of c.self.inside.down c.if-is_some.ensures)) c.requires c.in-Err.ensures.keys c.in-Err.ensures.pages c.args.path.now c.args.flags c.in-Err.fault c.refuse.result c.refuse.new.down c.in-Err.ensures.does c.refuse.ensures.reply c.refuse.ensures.down).keeps
 
 pub returns-in-Err-clause-age : goal.returns-in-Err-clause-age
-returns-in-Err-clause-age g c = aged_by c.args.self.now c.self.inside.kfs c.open.new.kfs c.self.inside.files.opens c.self.inside.down (2 ^ 16) (omega arith) c.self.view_is c.in-Err.ensures.age
+returns-in-Err-clause-age g c = aged_by c.args.self.now c.self.inside.kfs c.open.new.kfs c.self.inside.files.opens c.self.inside.down (2 ^ 17) (omega arith) c.self.view_is c.in-Err.ensures.age
 
 pub invariant_of-self : goal.invariant_of-self
-invariant_of-self g c = (open_answered c.args.self.now c.self.inside.kfs c.open.new.kfs c.self.inside.files.opens c.open.new.files.opens c.self.inside.down c.self.view_is (none_of c.self.inside.down c.if-is_some.ensures) (c.self.invariant (none_of c.self.inside.down c.if-is_some.ensures)) c.requires.age c.in-Ok.ensures.keys c.in-Ok.ensures.pages c.in-Ok.ensures.chunks c.args.path.now c.args.flags c.requires.whole c.in-Ok.fd c.in-Ok.ensures.does).awake
+invariant_of-self g c = (open_answered c.args.self.now c.self.inside.kfs c.open.new.kfs c.self.inside.files.opens c.open.new.files.opens c.self.inside.down c.self.view_is (none_of c.self.inside.down c.if-is_some.ensures) (c.self.invariant (none_of c.self.inside.down c.if-is_some.ensures)) c.requires c.in-Ok.ensures.keys c.in-Ok.ensures.pages c.args.path.now c.args.flags c.in-Ok.fd c.in-Ok.ensures.does).awake
 
 pub returns-in-Ok-clause-goes_on : goal.returns-in-Ok-clause-goes_on
-returns-in-Ok-clause-goes_on g c = subst (λ n. GoesOn c.args.self.now.book (lines.Call (calls.Open c.args.path.now c.args.flags)) (answers.Reply (replies.Number n)) (book_of c.open.new.kfs c.open.new.files.opens c.self.inside.down)) (sym c.from.ensures) (open_answered c.args.self.now c.self.inside.kfs c.open.new.kfs c.self.inside.files.opens c.open.new.files.opens c.self.inside.down c.self.view_is (none_of c.self.inside.down c.if-is_some.ensures) (c.self.invariant (none_of c.self.inside.down c.if-is_some.ensures)) c.requires.age c.in-Ok.ensures.keys c.in-Ok.ensures.pages c.in-Ok.ensures.chunks c.args.path.now c.args.flags c.requires.whole c.in-Ok.fd c.in-Ok.ensures.does).goes
+returns-in-Ok-clause-goes_on g c = subst (λ n. GoesOn c.args.self.now.book (lines.Call (calls.Open c.args.path.now c.args.flags)) (answers.Reply (replies.Number n)) (book_of c.open.new.kfs c.open.new.files.opens c.self.inside.down)) (sym c.from.ensures) (open_answered c.args.self.now c.self.inside.kfs c.open.new.kfs c.self.inside.files.opens c.open.new.files.opens c.self.inside.down c.self.view_is (none_of c.self.inside.down c.if-is_some.ensures) (c.self.invariant (none_of c.self.inside.down c.if-is_some.ensures)) c.requires c.in-Ok.ensures.keys c.in-Ok.ensures.pages c.args.path.now c.args.flags c.in-Ok.fd c.in-Ok.ensures.does).goes
 
 pub returns-in-Ok-clause-counts : goal.returns-in-Ok-clause-counts
-returns-in-Ok-clause-counts g c = (open_answered c.args.self.now c.self.inside.kfs c.open.new.kfs c.self.inside.files.opens c.open.new.files.opens c.self.inside.down c.self.view_is (none_of c.self.inside.down c.if-is_some.ensures) (c.self.invariant (none_of c.self.inside.down c.if-is_some.ensures)) c.requires.age c.in-Ok.ensures.keys c.in-Ok.ensures.pages c.in-Ok.ensures.chunks c.args.path.now c.args.flags c.requires.whole c.in-Ok.fd c.in-Ok.ensures.does).counts
+returns-in-Ok-clause-counts g c = (open_answered c.args.self.now c.self.inside.kfs c.open.new.kfs c.self.inside.files.opens c.open.new.files.opens c.self.inside.down c.self.view_is (none_of c.self.inside.down c.if-is_some.ensures) (c.self.invariant (none_of c.self.inside.down c.if-is_some.ensures)) c.requires c.in-Ok.ensures.keys c.in-Ok.ensures.pages c.args.path.now c.args.flags c.in-Ok.fd c.in-Ok.ensures.does).counts
 
 pub returns-in-Ok-clause-down : goal.returns-in-Ok-clause-down
-returns-in-Ok-clause-down g c = (open_answered c.args.self.now c.self.inside.kfs c.open.new.kfs c.self.inside.files.opens c.open.new.files.opens c.self.inside.down c.self.view_is (none_of c.self.inside.down c.if-is_some.ensures) (c.self.invariant (none_of c.self.inside.down c.if-is_some.ensures)) c.requires.age c.in-Ok.ensures.keys c.in-Ok.ensures.pages c.in-Ok.ensures.chunks c.args.path.now c.args.flags c.requires.whole c.in-Ok.fd c.in-Ok.ensures.does).keeps
+returns-in-Ok-clause-down g c = (open_answered c.args.self.now c.self.inside.kfs c.open.new.kfs c.self.inside.files.opens c.open.new.files.opens c.self.inside.down c.self.view_is (none_of c.self.inside.down c.if-is_some.ensures) (c.self.invariant (none_of c.self.inside.down c.if-is_some.ensures)) c.requires c.in-Ok.ensures.keys c.in-Ok.ensures.pages c.args.path.now c.args.flags c.in-Ok.fd c.in-Ok.ensures.does).keeps
 
 pub returns-in-Ok-clause-age : goal.returns-in-Ok-clause-age
-returns-in-Ok-clause-age g c = aged_by c.args.self.now c.self.inside.kfs c.open.new.kfs c.self.inside.files.opens c.self.inside.down (2 ^ 16) (omega arith) c.self.view_is c.in-Ok.ensures.age
+returns-in-Ok-clause-age g c = aged_by c.args.self.now c.self.inside.kfs c.open.new.kfs c.self.inside.files.opens c.self.inside.down (2 ^ 17) (omega arith) c.self.view_is c.in-Ok.ensures.age

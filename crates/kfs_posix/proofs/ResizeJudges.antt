@@ -1,0 +1,40 @@
+-- The judge of a file's new length, by its parts.
+use Rattle.std.proofs.Common.{◌≡◌, ℕ, false, refl, sym, ◌∙◌, ap, subst, arith, List, Result, Ok, ℤ}
+use lib.Signed.{lt_z}
+use Rattle.std.specs.Prelude.{pos, negsuc}
+use Rattle.kv_device.specs.Objects.{Objects}
+use Rattle.kfs_path.specs.declared.call.Errno.{Errno}
+use Rattle.kfs_path.specs.declared.call.Errno.TheVariants.{EINVAL}
+use Rattle.kfs_model.specs.Ladder.{◌>>=◌, ◌>>◌, ◌when◌}
+use Rattle.kfs_model.specs.Step.{Route, syntax, is_negative, natural}
+use Rattle.kfs_tx.specs.Run.{Aged, seen}
+use Rattle.kfs_core.specs.declared.fault.CoreFault.{CoreFault}
+use Rattle.kfs_core.specs.declared.room.Space.{Space}
+use Rattle.kfs_core.specs.Core.{KfsState, run_in, Stays}
+use Rattle.kfs_core.specs.Room.{space_in}
+use Rattle.kfs_posix.specs.Opens.{Opens}
+use Rattle.kfs_posix.specs.Resizing.{resize_node, named_file_in, truncate_by, LengthDoes}
+
+-- a call that only read left all as it was
+pub still : (old mid : KfsState) → Stays old mid → run_in mid ≡ run_in old → Aged old.running mid.running 0 → mid ≡ old
+still old mid rest same aged =
+    let age : mid.running.device_age ≡ old.running.device_age = let h = aged.device in omega arith in
+    rest ∙ (λ i. record old { running = record { run = same i; device_age = age i } })
+
+pub truncate_judged : (m : Objects) (space : Space) (path : List ℕ) (route : Route) (size : ℤ) (n : ℕ) → is_negative size ≡ false → syntax path ≡ Ok route → named_file_in m route ≡ Ok n → truncate_by m space path size ≡ resize_node m space n (natural size)
+truncate_judged m space path route size n plain read named =
+    (λ i. (EINVAL when plain i) >> (read i >>= λ route. named_file_in m route >>= λ n. resize_node m space n (natural size)))
+    ∙ ap (λ r. r >>= λ n. resize_node m space n (natural size)) named
+
+-- what was done of a node is what was done of the path that names it
+pub length_moved : {X : Type 0} (old mid new : KfsState) (o files : Opens) (n l size : ℕ) (result : Result X CoreFault) → mid ≡ old → l ≡ size → LengthDoes mid o (resize_node (seen (run_in mid)) (space_in mid) n l) l result new files
+    → {judge : Result (ℕ × ℕ) Errno} → judge ≡ resize_node (seen (run_in old)) (space_in old) n size → LengthDoes old o judge size result new files
+length_moved old mid new o files n l size result same is does judged =
+    subst (λ j. LengthDoes old o j size result new files) (sym judged)
+    (subst (λ s. LengthDoes old o (resize_node (seen (run_in old)) (space_in old) n s) s result new files) is
+    (subst (λ (k : KfsState). LengthDoes k o (resize_node (seen (run_in k)) (space_in k) n l) l result new files) same does))
+
+-- a length that is tested to be no less than zero
+pub not_negative : (size : ℤ) → lt_z size (pos 0) ≡ false → is_negative size ≡ false
+not_negative (pos n) e = refl
+not_negative (negsuc n) e = absurd (cc)

@@ -1,0 +1,129 @@
+-- Telling the tree and due jobs as events of a life, by what they did.
+use Rattle.std.proofs.Common.{◌≡◌, ℕ, ◌<◌, ◌≤◌, ◌^◌, ◌&&◌, not, true, false, cond, Bool, refl, sym, ap, subst, arith, List, Option, Some, None, nat_le}
+use Rattle.std.specs.FinMap as objects
+use Rattle.std.proofs.lemmas.Bool.Decides.{nat_tests}
+use Rattle.kv_device.specs.declared.fault.DeviceFault.{DeviceFault}
+use Rattle.kv_device.specs.declared.fault.DeviceFault.TheVariants.{NoTx, Busy, TxFull, Full, BadSize, Off, Failed, Memory}
+use Rattle.kv_device.specs.Machine.{Machine}
+use Rattle.kv_device.specs.Calls.{IsFault, Falls, WorkFault}
+use Rattle.kfs_path.specs.declared.call.Call.{Call}
+use Rattle.kfs_path.specs.declared.call.Call.TheVariants as calls
+use Rattle.kfs_path.specs.declared.call.Cause.{Cause}
+use Rattle.kfs_path.specs.declared.call.Reply.{Reply}
+use Rattle.kfs_path.specs.declared.call.Reply.TheVariants as replies
+use Rattle.kfs_path.specs.declared.call.TreeItem.{TreeItem}
+use Rattle.kfs_model.specs.declared.Line.TheVariants as lines
+use Rattle.kfs_model.specs.declared.Answer.TheVariants as answers
+use Rattle.kfs_model.specs.Tree.{charge, chunks}
+use Rattle.kfs_model.specs.Life.{Live}
+use Rattle.kfs_shows.proofs.Counting.{few_objects}
+use Rattle.kfs_tx.specs.Run.{SameBounds, Fallen, seen}
+use Rattle.kfs_core.specs.declared.fault.CoreFault.{CoreFault}
+use Rattle.kfs_core.specs.declared.fault.CoreFault.TheVariants.{No, Device}
+use Rattle.kfs_core.specs.Core.{KfsState, run_in, Stays}
+use Rattle.kfs_core.specs.Gives.{LeavesAtFault}
+use Rattle.kfs_core.specs.Listing.{ListsAll, IsOfDevice}
+use Rattle.kfs_core.specs.Working.{WorkFails}
+use Rattle.kfs_core.proofs.Told.{told_same}
+use Rattle.kfs_posix.specs.Opens.{Opens}
+use Rattle.kfs_posix.specs.Book.{Book, SessionState, state_of, book_of, limits_of, cause_of}
+use Rattle.kfs_posix.specs.Answering.{Counts, refusal, down_after}
+use Rattle.kfs_posix.specs.Showing.{ShowsLive, GoesOn}
+use Rattle.kfs_posix.proofs.Going.{as_before, idle_goes, fall_goes}
+use Rattle.kfs_posix.proofs.Calls.{stands_of, read_falls, any_cause}
+use Rattle.kfs_posix.proofs.Fault.{read_counts, read_awake, caused_counts, alone_caused}
+use Rattle.kfs_posix.proofs.Events.{Happens, IsPlain, plain, same_machine, answered, failed}
+
+-- ---- the tree
+
+both_true : (a b : Bool) → (a && b) ≡ true → (a ≡ true) × (b ≡ true)
+both_true true b e = (refl, e)
+both_true false b e = absurd (cc)
+
+-- a session on a device of few keys sees few objects
+few_seen : (b : Book) (live : Live) → ShowsLive b live → b.keys < 2 ^ 32 → objects.len (seen b.run) < 2 ^ 32
+few_seen b live sh small =
+    let h = both_true (nat_le (charge live.world.tree) b.keys) (nat_le (chunks live.world.tree) b.pages) sh.room in
+    let le : charge live.world.tree ≤ b.keys = grind (arith, nat_tests, h.0) in
+    let few = few_objects (seen b.run) live.world.tree sh.tree sh.sees.tree (let h = sh.low in omega arith) in
+    omega arith
+
+tree_goes : (old : Book) (items : List TreeItem) → old.down ≡ None → old.keys < 2 ^ 32 → ListsAll (seen old.run) items → GoesOn old (lines.Call calls.Tree) (answers.Reply (replies.Tree items)) old
+tree_goes old items up small lists = idle_goes old calls.Tree (replies.Tree items) up (λ w x. refl) refl (λ live sh.
+    ap (λ xs. record { world = live.world; reply = replies.Tree xs }) (sym (told_same (seen old.run) live.world.tree (stands_of old live sh) (few_seen old live sh small) items lists)))
+
+-- ---- due jobs
+
+work_goes : (old : Book) (operations : ℕ) → old.down ≡ None → GoesOn old (lines.Call (calls.Work operations)) (answers.Reply replies.Done) old
+work_goes old operations up = idle_goes old (calls.Work operations) replies.Done up (λ w x. refl) refl (λ live sh. refl)
+
+bounds_along : (m new x : Machine) → new ≡ x → SameBounds m x → SameBounds m new
+bounds_along m new x e same = subst (SameBounds m) (sym e) same
+
+work_fallen : (m : Machine) (fault : DeviceFault) (new : Machine) → Falls m fault new → Fallen m fault m.stable new
+work_fallen m NoTx new h = absurd h
+work_fallen m Busy new h = absurd h
+work_fallen m TxFull new h = absurd h
+work_fallen m (Full keys pages) new h = absurd h
+work_fallen m BadSize new h = absurd h
+work_fallen m Off new h = record { cause = (h.0, ap (λ (x : Machine). x.faults) h.1); stable = ap (λ (x : Machine). x.stable) h.1; bounds = bounds_along m new _ h.1 (record { most_cuts = refl; most_faults = refl; room_keys = refl; room_pages = refl }) }
+work_fallen m Failed new h = record { cause = (h.0, ap (λ (x : Machine). x.cuts) h.1); stable = ap (λ (x : Machine). x.stable) h.1; bounds = bounds_along m new _ h.1 (record { most_cuts = refl; most_faults = refl; room_keys = refl; room_pages = refl }) }
+work_fallen m Memory new h = record { cause = (ap (λ (x : Machine). x.cuts) h, ap (λ (x : Machine). x.faults) h); stable = ap (λ (x : Machine). x.stable) h; bounds = bounds_along m new _ h (record { most_cuts = refl; most_faults = refl; room_keys = refl; room_pages = refl }) }
+
+work_falls : (old new : Book) (operations : ℕ) (fault : DeviceFault) → old.down ≡ None → new.down ≡ Some (cause_of fault) → limits_of new ≡ limits_of old → WorkFault old.run.machine fault new.run.machine
+    → GoesOn old (lines.Call (calls.Work operations)) (answers.Reply (replies.Down (cause_of fault))) new
+work_falls old new operations fault up down limits h = fall_goes old new (calls.Work operations) fault up down limits (λ live sh. record {
+  stands = old.run.machine.stable;
+  fallen = work_fallen old.run.machine fault new.run.machine (subst (λ o. IsFault o Falls old.run.machine fault new.run.machine) (λ i. cond (not (sh.ready.up i)) (Some Off) None) h);
+  stood = as_before sh.saved;
+  can = λ cause e. any_cause live.world (calls.Work operations) refl refl refl cause;
+})
+
+-- ---- of a session
+
+module _ (old : SessionState) (k0 k1 : KfsState) (o : Opens) (d : Option Cause) (is : state_of k0 o d ≡ old) (up : d ≡ None) (awake : (run_in k0).machine.up ≡ true) (rest : Stays k0 k1) where
+  abbrev b : Book
+  b = book_of k0 o d
+
+  -- answered, with all as it was
+  idle : (call : Call) (reply : Reply) → IsPlain reply → run_in k1 ≡ run_in k0 → GoesOn b (lines.Call call) (answers.Reply reply) b → Happens old call reply k1 o d
+  idle call reply is_plain leaves goes =
+      answered old k0 k1 o o d is up awake call reply is_plain (run_in k0) k0.charge k0.chunks o (same_machine (run_in k0)) leaves
+      (ap (λ (k : KfsState). k.charge) rest) (ap (λ (k : KfsState). k.chunks) rest) (ap (λ (k : KfsState). k.keys) rest) (ap (λ (k : KfsState). k.pages) rest) refl goes
+
+  -- down
+  fails : (call : Call) (fault : CoreFault) (reply : Reply) (d1 : Option Cause) → reply ≡ refusal fault → d1 ≡ down_after d fault
+      → Counts (run_in k0).machine (refusal fault) (run_in k1).machine → (down_after d fault ≡ None → (run_in k1).machine.up ≡ true)
+      → GoesOn b (lines.Call call) (answers.Reply (refusal fault)) (record b { run = run_in k1; down = down_after d fault }) → Happens old call reply k1 o d1
+  fails call fault reply d1 reply_is down counts still goes =
+      failed old k0 k1 o o d is up awake call fault reply d1 reply_is down
+      (ap (λ (k : KfsState). k.charge) rest) (ap (λ (k : KfsState). k.chunks) rest) (ap (λ (k : KfsState). k.keys) rest) (ap (λ (k : KfsState). k.pages) rest) refl counts still goes
+
+  pub tree_answered : (items : List TreeItem) → k0.keys ≤ 68544 → ListsAll (seen (run_in k0)) items → run_in k1 ≡ run_in k0 → Happens old calls.Tree (replies.Tree items) k1 o d
+  tree_answered items small lists leaves = idle calls.Tree (replies.Tree items) (plain (λ old new h. h) (λ old new a b. (a, b))) leaves (tree_goes b items up (omega arith) lists)
+
+  pub tree_failed : (fault : CoreFault) (reply : Reply) (d1 : Option Cause) → IsOfDevice fault → LeavesAtFault (run_in k0) fault (run_in k1) → reply ≡ refusal fault → d1 ≡ down_after d fault → Happens old calls.Tree reply k1 o d1
+  tree_failed fault reply d1 own leaves reply_is down = fails calls.Tree fault reply d1 reply_is down (read_counts (run_in k0) (run_in k1) fault awake leaves) (read_awake (run_in k0) (run_in k1) d fault awake leaves) (by fault own leaves)
+    where
+      by : (fault : CoreFault) → IsOfDevice fault → LeavesAtFault (run_in k0) fault (run_in k1) → GoesOn b (lines.Call calls.Tree) (answers.Reply (refusal fault)) (record b { run = run_in k1; down = down_after d fault })
+      by (No e) own leaves = absurd own
+      by (Device f) own leaves = read_falls b (record b { run = run_in k1; down = Some (cause_of f) }) calls.Tree f (λ w. refl) (λ w. refl) up refl refl leaves
+
+  module _ (operations : ℕ) where
+    pub work_answered : run_in k1 ≡ run_in k0 → Happens old (calls.Work operations) replies.Done k1 o d
+    work_answered leaves = idle (calls.Work operations) replies.Done (plain (λ old new h. h) (λ old new a b. (a, b))) leaves (work_goes b operations up)
+
+    pub work_failed : (fault : CoreFault) (reply : Reply) (d1 : Option Cause) → WorkFails (run_in k0) (run_in k1) fault → reply ≡ refusal fault → d1 ≡ down_after d fault → Happens old (calls.Work operations) reply k1 o d1
+    work_failed fault reply d1 h reply_is down = fails (calls.Work operations) fault reply d1 reply_is down (counts fault h) (still fault h) (by fault h)
+      where
+        counts : (fault : CoreFault) → WorkFails (run_in k0) (run_in k1) fault → Counts (run_in k0).machine (refusal fault) (run_in k1).machine
+        counts (No e) h = absurd h
+        counts (Device f) h = caused_counts (run_in k0).machine f (run_in k1).machine awake (alone_caused (run_in k0).machine f (run_in k1).machine h.1)
+
+        still : (fault : CoreFault) → WorkFails (run_in k0) (run_in k1) fault → down_after d fault ≡ None → (run_in k1).machine.up ≡ true
+        still (No e) h none = absurd h
+        still (Device f) h none = absurd (cc)
+
+        by : (fault : CoreFault) → WorkFails (run_in k0) (run_in k1) fault → GoesOn b (lines.Call (calls.Work operations)) (answers.Reply (refusal fault)) (record b { run = run_in k1; down = down_after d fault })
+        by (No e) h = absurd h
+        by (Device f) h = work_falls b (record b { run = run_in k1; down = Some (cause_of f) }) operations f up refl refl h.0
