@@ -8,9 +8,9 @@ use Rattle.std.proofs.lemmas.List.Folds.{list_all-append}
 use Rattle.std.proofs.lemmas.List.Splits.{slice_split_at, slice_split_none}
 use Rattle.std.proofs.lemmas.Bool.{le-leb}
 use Rattle.std.proofs.lemmas.Bool.Decides.{nat_tests}
-use Rattle.kfs_script.specs.Script.{◌>>=◌, is_digit, number_of, count_of, int_of, behind, pieces_at, data_of, plain_data, fill_data, part, flags_of, is_trunc_built, whence_of, outcome_of, kind_of, times_of, blocks_of, line_of, line_of_words, command_of, path_command, number_command, bare_command, other_command, is_built, built_form, form_of, path_form, number_form, bare_form, open_form, read_form, write_form, pread_form, pwrite_form, lseek_form, truncate_form, ftruncate_form, rename_form, format_form, cut_form, fail_form, path_call, number_call, IsLine}
+use Rattle.kfs_script.specs.Script.{◌>>=◌, is_digit, number_of, count_of, int_of, behind, pieces_at, data_of, plain_data, fill_data, part, flags_of, whence_of, outcome_of, kind_of, times_of, blocks_of, line_of, line_of_words, command_of, path_command, number_command, bare_command, other_command, form_of, path_form, number_form, bare_form, open_form, read_form, write_form, pread_form, pwrite_form, lseek_form, truncate_form, ftruncate_form, rename_form, format_form, cut_form, fail_form, path_call, number_call, IsLine}
 use Rattle.kfs_script.specs.AnswerText.{esc}
-use Rattle.kfs_script.specs.Spelled.{AreBytes, spelled, outcome_text, kind_text, whence_text, flags_text, data_text, byte_text, IsOffset, FitsData, FitsFlags, Fits, command_at}
+use Rattle.kfs_script.specs.Spelled.{AreBytes, spelled, outcome_text, kind_text, whence_text, flags_text, data_text, byte_text, IsOffset, FitsData, FitsFlags, Fits}
 use Rattle.kfs_script.proofs.SpellingLaws.{both, joined, in_range, is_clear, none_of, digits_are, decimal_clear, hex_clear, esc_clear, byte_again, decimal_again, esc_again, two_words, three_words, four_words}
 use Rattle.kfs_script.specs.declared.command.Command.{Command}
 use Rattle.kfs_script.specs.declared.command.Command.TheVariants as commands
@@ -61,73 +61,58 @@ int_clear (negsuc n) le = decimal_clear 32 (suc n) (inl (omega arith)) (omega ar
 
 -- ---- the parts of `open`
 
-flags_again : (read write creat excl trunc append : Bool) → (read || write) ≡ true → (is_trunc_built || not trunc) ≡ true
+flags_again : (read write creat excl trunc append : Bool) → (read || write) ≡ true
     → flags_of (flags_text (record { read = read; write = write; creat = creat; excl = excl; trunc = trunc; append = append })) ≡ Some (record { read = read; write = write; creat = creat; excl = excl; trunc = trunc; append = append })
 unfolding flags_of part
-flags_again true true true true true true reading trunc = cc
-flags_again true true true true true false reading trunc = cc
-flags_again true true true true false true reading trunc = refl
-flags_again true true true true false false reading trunc = refl
-flags_again true true true false true true reading trunc = cc
-flags_again true true true false true false reading trunc = cc
-flags_again true true true false false true reading trunc = refl
-flags_again true true true false false false reading trunc = refl
-flags_again true true false true true true reading trunc = cc
-flags_again true true false true true false reading trunc = cc
-flags_again true true false true false true reading trunc = refl
-flags_again true true false true false false reading trunc = refl
-flags_again true true false false true true reading trunc = cc
-flags_again true true false false true false reading trunc = cc
-flags_again true true false false false true reading trunc = refl
-flags_again true true false false false false reading trunc = refl
-flags_again true false true true true true reading trunc = cc
-flags_again true false true true true false reading trunc = cc
-flags_again true false true true false true reading trunc = refl
-flags_again true false true true false false reading trunc = refl
-flags_again true false true false true true reading trunc = cc
-flags_again true false true false true false reading trunc = cc
-flags_again true false true false false true reading trunc = refl
-flags_again true false true false false false reading trunc = refl
-flags_again true false false true true true reading trunc = cc
-flags_again true false false true true false reading trunc = cc
-flags_again true false false true false true reading trunc = refl
-flags_again true false false true false false reading trunc = refl
-flags_again true false false false true true reading trunc = cc
-flags_again true false false false true false reading trunc = cc
-flags_again true false false false false true reading trunc = refl
-flags_again true false false false false false reading trunc = refl
-flags_again false true true true true true reading trunc = cc
-flags_again false true true true true false reading trunc = cc
-flags_again false true true true false true reading trunc = refl
-flags_again false true true true false false reading trunc = refl
-flags_again false true true false true true reading trunc = cc
-flags_again false true true false true false reading trunc = cc
-flags_again false true true false false true reading trunc = refl
-flags_again false true true false false false reading trunc = refl
-flags_again false true false true true true reading trunc = cc
-flags_again false true false true true false reading trunc = cc
-flags_again false true false true false true reading trunc = refl
-flags_again false true false true false false reading trunc = refl
-flags_again false true false false true true reading trunc = cc
-flags_again false true false false true false reading trunc = cc
-flags_again false true false false false true reading trunc = refl
-flags_again false true false false false false reading trunc = refl
-flags_again false false true true true true reading trunc = cc
-flags_again false false true true true false reading trunc = cc
-flags_again false false true true false true reading trunc = cc
-flags_again false false true true false false reading trunc = cc
-flags_again false false true false true true reading trunc = cc
-flags_again false false true false true false reading trunc = cc
-flags_again false false true false false true reading trunc = cc
-flags_again false false true false false false reading trunc = cc
-flags_again false false false true true true reading trunc = cc
-flags_again false false false true true false reading trunc = cc
-flags_again false false false true false true reading trunc = cc
-flags_again false false false true false false reading trunc = cc
-flags_again false false false false true true reading trunc = cc
-flags_again false false false false true false reading trunc = cc
-flags_again false false false false false true reading trunc = cc
-flags_again false false false false false false reading trunc = cc
+flags_again true true true true true true reading = refl
+flags_again true true true true true false reading = refl
+flags_again true true true true false true reading = refl
+flags_again true true true true false false reading = refl
+flags_again true true true false true true reading = refl
+flags_again true true true false true false reading = refl
+flags_again true true true false false true reading = refl
+flags_again true true true false false false reading = refl
+flags_again true true false true true true reading = refl
+flags_again true true false true true false reading = refl
+flags_again true true false true false true reading = refl
+flags_again true true false true false false reading = refl
+flags_again true true false false true true reading = refl
+flags_again true true false false true false reading = refl
+flags_again true true false false false true reading = refl
+flags_again true true false false false false reading = refl
+flags_again true false true true true true reading = refl
+flags_again true false true true true false reading = refl
+flags_again true false true true false true reading = refl
+flags_again true false true true false false reading = refl
+flags_again true false true false true true reading = refl
+flags_again true false true false true false reading = refl
+flags_again true false true false false true reading = refl
+flags_again true false true false false false reading = refl
+flags_again true false false true true true reading = refl
+flags_again true false false true true false reading = refl
+flags_again true false false true false true reading = refl
+flags_again true false false true false false reading = refl
+flags_again true false false false true true reading = refl
+flags_again true false false false true false reading = refl
+flags_again true false false false false true reading = refl
+flags_again true false false false false false reading = refl
+flags_again false true true true true true reading = refl
+flags_again false true true true true false reading = refl
+flags_again false true true true false true reading = refl
+flags_again false true true true false false reading = refl
+flags_again false true true false true true reading = refl
+flags_again false true true false true false reading = refl
+flags_again false true true false false true reading = refl
+flags_again false true true false false false reading = refl
+flags_again false true false true true true reading = refl
+flags_again false true false true true false reading = refl
+flags_again false true false true false true reading = refl
+flags_again false true false true false false reading = refl
+flags_again false true false false true true reading = refl
+flags_again false true false false true false reading = refl
+flags_again false true false false false true reading = refl
+flags_again false true false false false false reading = refl
+flags_again false false creat excl trunc append reading = cc
 
 flags_clear : (read write creat excl trunc append : Bool) → is_clear 32 (flags_text (record { read = read; write = write; creat = creat; excl = excl; trunc = trunc; append = append })) ≡ true
 flags_clear true true true true true true = refl
@@ -259,7 +244,7 @@ number_words command n le = ap (λ o. o >>= λ p. Some (lines.Call (number_call 
 
 open_words : (path : List ℕ) (flags : Flags) → AreBytes path → FitsFlags flags → open_form (esc path ∷ flags_text flags ∷ []) ≡ Some (lines.Call (calls.Open path flags))
 unfolding open_form
-open_words path flags bytes fits = rw (esc_again path bytes, flags_again flags.read flags.write flags.creat flags.excl flags.trunc flags.append fits.0 fits.1) refl
+open_words path flags bytes fits = rw (esc_again path bytes, flags_again flags.read flags.write flags.creat flags.excl flags.trunc flags.append fits) refl
 
 read_words : (fd count : ℕ) → fd ≤ 1000000000 → count ≤ 1048576 → read_form (decimal fd ∷ decimal count ∷ []) ≡ Some (lines.Call (calls.Read fd count))
 unfolding read_form
@@ -307,10 +292,9 @@ fail_words kind n le low high = rw ((kind_again kind le).0, times_again n low hi
 
 -- ---- whole lines
 
-from_words : (text name : List ℕ) (words : List (List ℕ)) (command : Command) (line : Line) → pieces_at 32 text ≡ name ∷ words → command_of name ≡ Some command → is_built command ≡ true → form_of command words ≡ Some line → line_of text ≡ Some line
+from_words : (text name : List ℕ) (words : List (List ℕ)) (command : Command) (line : Line) → pieces_at 32 text ≡ name ∷ words → command_of name ≡ Some command → form_of command words ≡ Some line → line_of text ≡ Some line
 unfolding line_of
-from_words text name words command line cut named built form =
-    ap line_of_words cut ∙ ap (λ o. o >>= λ c. built_form c words) named ∙ ap (λ t. cond t (form_of command words) None) built ∙ form
+from_words text name words command line cut named form = ap line_of_words cut ∙ ap (λ o. o >>= λ c. form_of c words) named ∙ form
 
 -- the word of each command
 mkdir_named : command_of (codes "mkdir") ≡ Some (commands.Path paths.Mkdir)
@@ -433,31 +417,31 @@ room_words : bare_form bare.Room [] ≡ Some (lines.Call calls.Room)
 unfolding bare_form
 room_words = refl
 
--- each line whose command is built is read from its spelling
-pub spelled_again : (line : Line) → IsLine line → Fits line → is_built (command_at line) ≡ true → line_of (spelled line) ≡ Some line
-spelled_again (lines.Call (calls.Mkdir path)) line fits built = from_words _ (codes "mkdir") _ _ _ (two_words (codes "mkdir") (esc path) refl (esc_clear path)) mkdir_named built (path_words paths.Mkdir path fits)
-spelled_again (lines.Call (calls.Rmdir path)) line fits built = from_words _ (codes "rmdir") _ _ _ (two_words (codes "rmdir") (esc path) refl (esc_clear path)) rmdir_named built (path_words paths.Rmdir path fits)
-spelled_again (lines.Call (calls.Unlink path)) line fits built = from_words _ (codes "unlink") _ _ _ (two_words (codes "unlink") (esc path) refl (esc_clear path)) unlink_named built (path_words paths.Unlink path fits)
-spelled_again (lines.Call (calls.Stat path)) line fits built = from_words _ (codes "stat") _ _ _ (two_words (codes "stat") (esc path) refl (esc_clear path)) stat_named built (path_words paths.Stat path fits)
-spelled_again (lines.Call (calls.List path)) line fits built = from_words _ (codes "list") _ _ _ (two_words (codes "list") (esc path) refl (esc_clear path)) list_named built (path_words paths.List path fits)
-spelled_again (lines.Call (calls.Close n)) line fits built = from_words _ (codes "close") _ _ _ (two_words (codes "close") (decimal n) refl (number_clear n fits)) close_named built (number_words numbers.Close n fits)
-spelled_again (lines.Call (calls.Dup n)) line fits built = from_words _ (codes "dup") _ _ _ (two_words (codes "dup") (decimal n) refl (number_clear n fits)) dup_named built (number_words numbers.Dup n fits)
-spelled_again (lines.Call (calls.Fstat n)) line fits built = from_words _ (codes "fstat") _ _ _ (two_words (codes "fstat") (decimal n) refl (number_clear n fits)) fstat_named built (number_words numbers.Fstat n fits)
-spelled_again (lines.Call (calls.Fsync n)) line fits built = from_words _ (codes "fsync") _ _ _ (two_words (codes "fsync") (decimal n) refl (number_clear n fits)) fsync_named built (number_words numbers.Fsync n fits)
-spelled_again (lines.Call (calls.Work n)) line fits built = from_words _ (codes "@work") _ _ _ (two_words (codes "@work") (decimal n) refl (number_clear n fits)) work_named built (number_words numbers.Work n fits)
-spelled_again (lines.Call calls.Sync) line fits built = from_words _ (codes "sync") [] _ _ refl sync_named built sync_words
-spelled_again lines.Mount line fits built = from_words _ (codes "@mount") [] _ _ refl mount_named built mount_words
-spelled_again (lines.Call calls.Tree) line fits built = from_words _ (codes "@tree") [] _ _ refl tree_named built tree_words
-spelled_again (lines.Call calls.Room) line fits built = from_words _ (codes "@room") [] _ _ refl room_named built room_words
-spelled_again (lines.Call (calls.Open path flags)) line fits built = from_words _ (codes "open") _ _ _ (three_words (codes "open") (esc path) (flags_text flags) refl (esc_clear path) (flags_clear flags.read flags.write flags.creat flags.excl flags.trunc flags.append)) open_named built (open_words path flags fits.0 fits.1)
-spelled_again (lines.Call (calls.Read fd count)) line fits built = from_words _ (codes "read") _ _ _ (three_words (codes "read") (decimal fd) (decimal count) refl (number_clear fd fits.0) (count_clear count fits.1)) read_named built (read_words fd count fits.0 fits.1)
-spelled_again (lines.Call (calls.Write fd it)) line fits built = from_words _ (codes "write") _ _ _ (three_words (codes "write") (decimal fd) (data_text it) refl (number_clear fd fits.0) (data_clear it fits.1)) write_named built (write_words fd it fits.0 fits.1)
-spelled_again (lines.Call (calls.Pread fd count offset)) line fits built = from_words _ (codes "pread") _ _ _ (four_words (codes "pread") (decimal fd) (decimal count) (signed_decimal offset) refl (number_clear fd fits.0) (count_clear count fits.1) (int_clear offset fits.2)) pread_named built (pread_words fd count offset fits.0 fits.1 fits.2)
-spelled_again (lines.Call (calls.Pwrite fd it offset)) line fits built = from_words _ (codes "pwrite") _ _ _ (four_words (codes "pwrite") (decimal fd) (data_text it) (signed_decimal offset) refl (number_clear fd fits.0) (data_clear it fits.1) (int_clear offset fits.2)) pwrite_named built (pwrite_words fd it offset fits.0 fits.1 fits.2)
-spelled_again (lines.Call (calls.Lseek fd whence offset)) line fits built = from_words _ (codes "lseek") _ _ _ (four_words (codes "lseek") (decimal fd) (whence_text whence) (signed_decimal offset) refl (number_clear fd fits.0) (whence_again whence).1 (int_clear offset fits.1)) lseek_named built (lseek_words fd whence offset fits.0 fits.1)
-spelled_again (lines.Call (calls.Truncate path size)) line fits built = from_words _ (codes "truncate") _ _ _ (three_words (codes "truncate") (esc path) (signed_decimal size) refl (esc_clear path) (int_clear size fits.1)) truncate_named built (truncate_words path size fits.0 fits.1)
-spelled_again (lines.Call (calls.Ftruncate fd size)) line fits built = from_words _ (codes "ftruncate") _ _ _ (three_words (codes "ftruncate") (decimal fd) (signed_decimal size) refl (number_clear fd fits.0) (int_clear size fits.1)) ftruncate_named built (ftruncate_words fd size fits.0 fits.1)
-spelled_again (lines.Call (calls.Rename old new)) line fits built = from_words _ (codes "rename") _ _ _ (three_words (codes "rename") (esc old) (esc new) refl (esc_clear old) (esc_clear new)) rename_named built (rename_words old new fits.0 fits.1)
-spelled_again (lines.Format n) line fits built = from_words _ (codes "@format") _ _ _ (two_words (codes "@format") (decimal n) refl (decimal_clear 32 n (inl (omega arith)) (omega (arith, line.1)))) format_named built (format_words n line.0 line.1)
-spelled_again (lines.Cut n how) line fits built = from_words _ (codes "@cut") _ _ _ (three_words (codes "@cut") (decimal n) (outcome_text how) refl (number_clear n line.1) (outcome_again how line.2).1) cut_named built (cut_words n how line.0 line.1 line.2)
-spelled_again (lines.Fail kind n) line fits built = from_words _ (codes "@fail") _ _ _ (three_words (codes "@fail") (kind_text kind) (decimal n) refl (kind_again kind line.0).1 (number_clear n line.2)) fail_named built (fail_words kind n line.0 line.1 line.2)
+-- each line is read from its spelling
+pub spelled_again : (line : Line) → IsLine line → Fits line → line_of (spelled line) ≡ Some line
+spelled_again (lines.Call (calls.Mkdir path)) line fits = from_words _ (codes "mkdir") _ _ _ (two_words (codes "mkdir") (esc path) refl (esc_clear path)) mkdir_named (path_words paths.Mkdir path fits)
+spelled_again (lines.Call (calls.Rmdir path)) line fits = from_words _ (codes "rmdir") _ _ _ (two_words (codes "rmdir") (esc path) refl (esc_clear path)) rmdir_named (path_words paths.Rmdir path fits)
+spelled_again (lines.Call (calls.Unlink path)) line fits = from_words _ (codes "unlink") _ _ _ (two_words (codes "unlink") (esc path) refl (esc_clear path)) unlink_named (path_words paths.Unlink path fits)
+spelled_again (lines.Call (calls.Stat path)) line fits = from_words _ (codes "stat") _ _ _ (two_words (codes "stat") (esc path) refl (esc_clear path)) stat_named (path_words paths.Stat path fits)
+spelled_again (lines.Call (calls.List path)) line fits = from_words _ (codes "list") _ _ _ (two_words (codes "list") (esc path) refl (esc_clear path)) list_named (path_words paths.List path fits)
+spelled_again (lines.Call (calls.Close n)) line fits = from_words _ (codes "close") _ _ _ (two_words (codes "close") (decimal n) refl (number_clear n fits)) close_named (number_words numbers.Close n fits)
+spelled_again (lines.Call (calls.Dup n)) line fits = from_words _ (codes "dup") _ _ _ (two_words (codes "dup") (decimal n) refl (number_clear n fits)) dup_named (number_words numbers.Dup n fits)
+spelled_again (lines.Call (calls.Fstat n)) line fits = from_words _ (codes "fstat") _ _ _ (two_words (codes "fstat") (decimal n) refl (number_clear n fits)) fstat_named (number_words numbers.Fstat n fits)
+spelled_again (lines.Call (calls.Fsync n)) line fits = from_words _ (codes "fsync") _ _ _ (two_words (codes "fsync") (decimal n) refl (number_clear n fits)) fsync_named (number_words numbers.Fsync n fits)
+spelled_again (lines.Call (calls.Work n)) line fits = from_words _ (codes "@work") _ _ _ (two_words (codes "@work") (decimal n) refl (number_clear n fits)) work_named (number_words numbers.Work n fits)
+spelled_again (lines.Call calls.Sync) line fits = from_words _ (codes "sync") [] _ _ refl sync_named sync_words
+spelled_again lines.Mount line fits = from_words _ (codes "@mount") [] _ _ refl mount_named mount_words
+spelled_again (lines.Call calls.Tree) line fits = from_words _ (codes "@tree") [] _ _ refl tree_named tree_words
+spelled_again (lines.Call calls.Room) line fits = from_words _ (codes "@room") [] _ _ refl room_named room_words
+spelled_again (lines.Call (calls.Open path flags)) line fits = from_words _ (codes "open") _ _ _ (three_words (codes "open") (esc path) (flags_text flags) refl (esc_clear path) (flags_clear flags.read flags.write flags.creat flags.excl flags.trunc flags.append)) open_named (open_words path flags fits.0 fits.1)
+spelled_again (lines.Call (calls.Read fd count)) line fits = from_words _ (codes "read") _ _ _ (three_words (codes "read") (decimal fd) (decimal count) refl (number_clear fd fits.0) (count_clear count fits.1)) read_named (read_words fd count fits.0 fits.1)
+spelled_again (lines.Call (calls.Write fd it)) line fits = from_words _ (codes "write") _ _ _ (three_words (codes "write") (decimal fd) (data_text it) refl (number_clear fd fits.0) (data_clear it fits.1)) write_named (write_words fd it fits.0 fits.1)
+spelled_again (lines.Call (calls.Pread fd count offset)) line fits = from_words _ (codes "pread") _ _ _ (four_words (codes "pread") (decimal fd) (decimal count) (signed_decimal offset) refl (number_clear fd fits.0) (count_clear count fits.1) (int_clear offset fits.2)) pread_named (pread_words fd count offset fits.0 fits.1 fits.2)
+spelled_again (lines.Call (calls.Pwrite fd it offset)) line fits = from_words _ (codes "pwrite") _ _ _ (four_words (codes "pwrite") (decimal fd) (data_text it) (signed_decimal offset) refl (number_clear fd fits.0) (data_clear it fits.1) (int_clear offset fits.2)) pwrite_named (pwrite_words fd it offset fits.0 fits.1 fits.2)
+spelled_again (lines.Call (calls.Lseek fd whence offset)) line fits = from_words _ (codes "lseek") _ _ _ (four_words (codes "lseek") (decimal fd) (whence_text whence) (signed_decimal offset) refl (number_clear fd fits.0) (whence_again whence).1 (int_clear offset fits.1)) lseek_named (lseek_words fd whence offset fits.0 fits.1)
+spelled_again (lines.Call (calls.Truncate path size)) line fits = from_words _ (codes "truncate") _ _ _ (three_words (codes "truncate") (esc path) (signed_decimal size) refl (esc_clear path) (int_clear size fits.1)) truncate_named (truncate_words path size fits.0 fits.1)
+spelled_again (lines.Call (calls.Ftruncate fd size)) line fits = from_words _ (codes "ftruncate") _ _ _ (three_words (codes "ftruncate") (decimal fd) (signed_decimal size) refl (number_clear fd fits.0) (int_clear size fits.1)) ftruncate_named (ftruncate_words fd size fits.0 fits.1)
+spelled_again (lines.Call (calls.Rename old new)) line fits = from_words _ (codes "rename") _ _ _ (three_words (codes "rename") (esc old) (esc new) refl (esc_clear old) (esc_clear new)) rename_named (rename_words old new fits.0 fits.1)
+spelled_again (lines.Format n) line fits = from_words _ (codes "@format") _ _ _ (two_words (codes "@format") (decimal n) refl (decimal_clear 32 n (inl (omega arith)) (omega (arith, line.1)))) format_named (format_words n line.0 line.1)
+spelled_again (lines.Cut n how) line fits = from_words _ (codes "@cut") _ _ _ (three_words (codes "@cut") (decimal n) (outcome_text how) refl (number_clear n line.1) (outcome_again how line.2).1) cut_named (cut_words n how line.0 line.1 line.2)
+spelled_again (lines.Fail kind n) line fits = from_words _ (codes "@fail") _ _ _ (three_words (codes "@fail") (kind_text kind) (decimal n) refl (kind_again kind line.0).1 (number_clear n line.2)) fail_named (fail_words kind n line.0 line.1 line.2)

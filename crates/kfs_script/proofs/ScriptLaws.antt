@@ -3,7 +3,7 @@ use Rattle.std.proofs.Common.{◌≡◌, ℕ, ◌+◌, List, [], ◌∷◌, ◌+
 use Rattle.kfs_model.specs.declared.Line.{Line}
 use Rattle.std.proofs.lemmas.List.Elements.{All-nil, All-push}
 use Rattle.kfs_script.specs.declared.command.Command.{Command}
-use Rattle.kfs_script.specs.Script.{◌>>=◌, added, with_front, followed, has_none, lines_from, lines_of, script_of, IsLine, IsScript, is_format, pieces_at, command_of, built_form, line_of_words, line_of}
+use Rattle.kfs_script.specs.Script.{◌>>=◌, added, with_front, followed, has_none, lines_from, lines_of, script_of, IsLine, IsScript, is_format, pieces_at, command_of, form_of, line_of_words, line_of}
 
 front_none : (r : Result (List Line) ℕ) → with_front [] r ≡ r
 front_none (Ok ls) = refl
@@ -42,10 +42,10 @@ pub held_push : (ls : List Line) (line : Line) → IsScript ls → IsLine line �
 held_push [] line held fits place = (All-push IsLine [] line held.0 fits, All-nil (λ l. is_format l ≡ false))
 held_push (l ∷ more) line held fits place = (All-push IsLine (l ∷ more) line held.0 fits, All-push (λ l. is_format l ≡ false) more line held.1 (place refl))
 
-pub spells_line : (text word : List ℕ) (more : List (List ℕ)) (command : Command) → pieces_at 32 text ≡ word ∷ more → Some command ≡ command_of word → line_of text ≡ built_form command more
+pub spells_line : (text word : List ℕ) (more : List (List ℕ)) (command : Command) → pieces_at 32 text ≡ word ∷ more → Some command ≡ command_of word → line_of text ≡ form_of command more
 unfolding line_of
-spells_line text word more command cut named = ap line_of_words cut ∙ ap (λ o. o >>= λ c. built_form c more) (sym named)
+spells_line text word more command cut named = ap line_of_words cut ∙ ap (λ o. o >>= λ c. form_of c more) (sym named)
 
 pub spells_none : (text word : List ℕ) (more : List (List ℕ)) → pieces_at 32 text ≡ word ∷ more → None ≡ command_of word → line_of text ≡ None
 unfolding line_of
-spells_none text word more cut named = ap line_of_words cut ∙ ap (λ o. o >>= λ c. built_form c more) (sym named)
+spells_none text word more cut named = ap line_of_words cut ∙ ap (λ o. o >>= λ c. form_of c more) (sym named)

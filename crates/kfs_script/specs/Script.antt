@@ -175,10 +175,6 @@ part_by word (Some rest) = (true, rest)
 unfoldable pub part : List ℕ → List ℕ → Bool × List ℕ
 part text word = part_by word (behind text word)
 
--- whether `+trunc` is in the grammar yet
-abbrev pub is_trunc_built : Bool
-is_trunc_built = false
-
 -- a word's parts in their order, each at most once
 unfoldable pub flags_of : List ℕ → Option Flags
 flags_of word =
@@ -188,7 +184,7 @@ flags_of word =
     let excl = part (codes "+excl") creat.1 in
     let trunc = part (codes "+trunc") excl.1 in
     let append = part (codes "+append") trunc.1 in
-    if (reading.0 || writing.0) && (length append.1 == 0) && (is_trunc_built || not trunc.0)
+    if (reading.0 || writing.0) && (length append.1 == 0)
     then Some (record { read = reading.0; write = writing.0; creat = creat.0; excl = excl.0; trunc = trunc.0; append = append.0 })
     else None
 
@@ -272,14 +268,6 @@ command_by None None None other = other
 
 unfoldable pub command_of : List ℕ → Option Command
 command_of word = command_by (path_command word) (number_command word) (bare_command word) (other_command word)
-
--- the commands that are in the grammar yet
-unfoldable pub is_built : Command → Bool
-is_built (commands.Number numbers.Work) = false
-is_built (commands.Bare bare.Tree) = false
-is_built commands.Truncate = false
-is_built commands.Ftruncate = false
-is_built command = true
 
 abbrev pub path_call : PathCommand → List ℕ → Call
 path_call paths.Mkdir path = calls.Mkdir path
@@ -422,12 +410,9 @@ form_of commands.Format words = format_form words
 form_of commands.Cut words = cut_form words
 form_of commands.Fail words = fail_form words
 
-abbrev pub built_form : Command → List (List ℕ) → Option Line
-built_form command words = if is_built command then form_of command words else None
-
 abbrev pub line_of_words : List (List ℕ) → Option Line
 line_of_words [] = None
-line_of_words (word ∷ more) = command_of word >>= λ command. built_form command more
+line_of_words (word ∷ more) = command_of word >>= λ command. form_of command more
 
 -- the line that the bytes spell, where they spell one
 unfoldable pub line_of : List ℕ → Option Line

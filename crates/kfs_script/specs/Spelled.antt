@@ -1,5 +1,5 @@
 -- The spelling of a line: the one of its numbers, and of its bytes the one that answers use too.
-use Rattle.std.specs.Prelude.{ℕ, ◌≡◌, ◌<◌, ◌≤◌, ◌+◌, ◌-◌, ◌^◌, Bool, true, not, ◌||◌, List, [], ◌∷◌, ◌++◌, length, codes, ◌/◌, ◌%◌, if◌then◌else◌, ◌==◌, ℤ, pos, negsuc}
+use Rattle.std.specs.Prelude.{ℕ, ◌≡◌, ◌<◌, ◌≤◌, ◌+◌, ◌-◌, ◌^◌, Bool, true, ◌||◌, List, [], ◌∷◌, ◌++◌, length, codes, ◌/◌, ◌%◌, if◌then◌else◌, ◌==◌, ℤ, pos, negsuc}
 use Rattle.std.specs.List.{AllByRecursion}
 use Rattle.std.specs.Fmt.{decimal, signed_decimal}
 use Rattle.kfs_path.specs.declared.call.Call.{Call}
@@ -11,12 +11,6 @@ use Rattle.kfs_path.specs.declared.call.Whence.{Whence}
 use Rattle.kfs_path.specs.declared.call.Whence.TheVariants as whences
 use Rattle.kfs_model.specs.declared.Line.{Line}
 use Rattle.kfs_model.specs.declared.Line.TheVariants as lines
-use Rattle.kfs_script.specs.declared.command.Command.{Command}
-use Rattle.kfs_script.specs.declared.command.Command.TheVariants as commands
-use Rattle.kfs_script.specs.declared.command.PathCommand.TheVariants as paths
-use Rattle.kfs_script.specs.declared.command.NumberCommand.TheVariants as numbers
-use Rattle.kfs_script.specs.declared.command.BareCommand.TheVariants as bare
-use Rattle.kfs_script.specs.Script.{is_trunc_built}
 use Rattle.kfs_script.specs.AnswerText.{esc, hex_digit, and_number}
 
 -- a space and a word
@@ -79,38 +73,6 @@ spelled (lines.Cut n how) = codes "@cut" ++ and_number n ++ and_word (outcome_te
 spelled (lines.Fail kind n) = codes "@fail" ++ and_word (kind_text kind) ++ and_number n
 spelled (lines.Call call) = call_text call
 
-abbrev pub command_for : Call → Command
-command_for (calls.Open path flags) = commands.Open
-command_for (calls.Close fd) = commands.Number numbers.Close
-command_for (calls.Dup fd) = commands.Number numbers.Dup
-command_for (calls.Read fd count) = commands.Read
-command_for (calls.Write fd bytes) = commands.Write
-command_for (calls.Pread fd count offset) = commands.Pread
-command_for (calls.Pwrite fd bytes offset) = commands.Pwrite
-command_for (calls.Lseek fd whence offset) = commands.Lseek
-command_for (calls.Truncate path size) = commands.Truncate
-command_for (calls.Ftruncate fd size) = commands.Ftruncate
-command_for (calls.Mkdir path) = commands.Path paths.Mkdir
-command_for (calls.Rmdir path) = commands.Path paths.Rmdir
-command_for (calls.Unlink path) = commands.Path paths.Unlink
-command_for (calls.Rename old new) = commands.Rename
-command_for (calls.Stat path) = commands.Path paths.Stat
-command_for (calls.Fstat fd) = commands.Number numbers.Fstat
-command_for (calls.List path) = commands.Path paths.List
-command_for (calls.Fsync fd) = commands.Number numbers.Fsync
-command_for calls.Sync = commands.Bare bare.Sync
-command_for calls.Room = commands.Bare bare.Room
-command_for calls.Tree = commands.Bare bare.Tree
-command_for (calls.Work n) = commands.Number numbers.Work
-
--- the command with which a line begins
-abbrev pub command_at : Line → Command
-command_at (lines.Format blocks) = commands.Format
-command_at lines.Mount = commands.Bare bare.Mount
-command_at (lines.Cut n how) = commands.Cut
-command_at (lines.Fail kind n) = commands.Fail
-command_at (lines.Call call) = command_for call
-
 -- bytes have eight bits
 abbrev pub AreBytes : List ℕ → Type 0
 AreBytes bytes = AllByRecursion (λ b. b < 256) bytes
@@ -127,7 +89,7 @@ FitsData (Fill count byte) = (count ≤ 1048576) × (byte < 256)
 
 -- reading or writing is among them
 abbrev pub FitsFlags : Flags → Type 0
-FitsFlags flags = ((flags.read || flags.write) ≡ true) × ((is_trunc_built || not flags.trunc) ≡ true)
+FitsFlags flags = (flags.read || flags.write) ≡ true
 
 -- the numbers are at most 1,000,000,000, counts at most 1,048,576
 abbrev pub FitsCall : Call → Type 0

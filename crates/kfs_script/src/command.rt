@@ -1,7 +1,7 @@
 //! The commands of a script.
 
 ghost use Rattle.std.specs.Prelude.{◌≡◌};
-ghost use Rattle.kfs_script.specs.Script.{path_command, number_command, bare_command, other_command, command_of, is_built, path_call, number_call, bare_line};
+ghost use Rattle.kfs_script.specs.Script.{path_command, number_command, bare_command, other_command, command_of, path_call, number_call, bare_line};
 
 use crate::cutting::spells;
 use kfs_model::Line;
@@ -177,20 +177,6 @@ pub(crate) fn command_of(word: &[u8]) -> Option<Command>
         return Some(Command::Bare(bare));
     }
     other_command(word)
-}
-
-/// Whether a command is in the grammar yet.
-#[tactic(auto, unfolding(crate::specs::Script::is_built))]
-pub(crate) fn is_built(command: Command) -> bool
-    ensures { result ≡ is_built command }
-{
-    !matches!(
-        command,
-        Command::Number(NumberCommand::Work)
-            | Command::Bare(BareCommand::Tree)
-            | Command::Truncate
-            | Command::Ftruncate
-    )
 }
 
 pub(crate) fn path_call(command: PathCommand, path: Text) -> Call

@@ -6,9 +6,6 @@ ghost use Rattle.kfs_script.specs.Script.{part, flags_of, whence_of, outcome_of,
 use crate::cutting::{behind, spells};
 use kfs_path::{Flags, Whence};
 
-/// Whether `+trunc` is in the grammar yet.
-const IS_TRUNC_BUILT: bool = false;
-
 /// Whether a word begins with a part that may be missing, and what follows.
 #[tactic(auto, unfolding(crate::specs::Script::part))]
 fn part<'a>(text: &[u8], word: &'a [u8]) -> (bool, &'a [u8])
@@ -31,7 +28,7 @@ pub(crate) fn flags_of(word: &[u8]) -> Option<Flags>
     let (excl, word) = part(b"+excl", word);
     let (trunc, word) = part(b"+trunc", word);
     let (append, word) = part(b"+append", word);
-    if (read || write) && word.is_empty() && (IS_TRUNC_BUILT || !trunc) {
+    if (read || write) && word.is_empty() {
         Some(Flags {
             read,
             write,

@@ -12,10 +12,10 @@ mod number;
 mod script;
 mod writing;
 
-ghost use Rattle.std.specs.Prelude.{ℕ, List, ◌≡◌, Option, Some, true, ◌<◌, ◌^◌};
+ghost use Rattle.std.specs.Prelude.{ℕ, List, ◌≡◌, Option, Some, ◌<◌, ◌^◌};
 ghost use Rattle.kfs_model.specs.declared.Line.{Line};
-ghost use Rattle.kfs_script.specs.Script.{IsLine, is_built, line_of, number_to};
-ghost use Rattle.kfs_script.specs.Spelled.{spelled, command_at, Fits};
+ghost use Rattle.kfs_script.specs.Script.{IsLine, line_of, number_to};
+ghost use Rattle.kfs_script.specs.Spelled.{spelled, Fits};
 
 pub use command::{BareCommand, Command, NumberCommand, PathCommand};
 pub use fault::ScriptFault;
@@ -23,9 +23,9 @@ pub use kfs_model::{Answer, Line};
 pub use script::{Script, read_script};
 pub use writing::write_answer;
 
-/// Each line of a command in the grammar is read from its spelling, where what it holds fits.
+/// Each line is read from its spelling, where what it holds fits.
 pub fn spelled_lines_are_read()
-    ensures { (line : Line) → IsLine line → Fits line → is_built (command_at line) ≡ true → line_of (spelled line) ≡ Some line }
+    ensures { (line : Line) → IsLine line → Fits line → line_of (spelled line) ≡ Some line }
 {}
 
 /// A number of a line has one spelling.

@@ -2,12 +2,11 @@
 
 ghost use Rattle.std.specs.Prelude.{◌≡◌, false, IfOk, IfSome};
 ghost use Rattle.std.specs.Option.{option_copied};
-ghost use Rattle.kfs_script.specs.Script.{path_form, number_form, bare_form, open_form, read_form, write_form, pread_form, pwrite_form, lseek_form, truncate_form, ftruncate_form, rename_form, format_form, cut_form, fail_form, form_of, built_form, line_of, line_at, is_skipped, is_format, IsLine};
+ghost use Rattle.kfs_script.specs.Script.{path_form, number_form, bare_form, open_form, read_form, write_form, pread_form, pwrite_form, lseek_form, truncate_form, ftruncate_form, rename_form, format_form, cut_form, fail_form, form_of, line_of, line_at, is_skipped, is_format, IsLine};
 ghost use Rattle.kfs_script.specs.Reading.{Gives, pieces_left};
 
 use crate::command::{
-    BareCommand, Command, NumberCommand, PathCommand, bare_line, command_of, is_built, number_call,
-    path_call,
+    BareCommand, Command, NumberCommand, PathCommand, bare_line, command_of, number_call, path_call,
 };
 use crate::cutting::{cut, one, three, two};
 use crate::data::data_of;
@@ -239,17 +238,6 @@ fn form_of(alloc: Global, command: Command, words: Option<&[u8]>) -> Result<Line
     }
 }
 
-fn built_form(alloc: Global, command: Command, words: Option<&[u8]>) -> Result<Line, LineFault>
-    ensures read { Gives result (built_form command (pieces_left 32 (option_copied words.entry))) }
-    ensures within { IfOk result IsLine }
-{
-    if is_built(command) {
-        form_of(alloc, command, words)
-    } else {
-        Err(LineFault::Outside)
-    }
-}
-
 /// The line that the bytes spell.
 fn line_of(alloc: Global, text: &[u8]) -> Result<Line, LineFault>
     ensures read { Gives result (line_of text.now) }
@@ -257,7 +245,7 @@ fn line_of(alloc: Global, text: &[u8]) -> Result<Line, LineFault>
 {
     let (word, words) = cut(text, b' ');
     match command_of(word) {
-        Some(command) => built_form(alloc, command, words),
+        Some(command) => form_of(alloc, command, words),
         None => Err(LineFault::Outside),
     }
 }

@@ -93,10 +93,10 @@ const SCRIPTS: [(&str, usize, u32); 84] = [
 ];
 
 // The same of the calls of files.
-const CALLS: [(&str, usize, u32); 34] = [
+const CALLS: [(&str, usize, u32); 38] = [
     ("open /f r\nopen /f w\nopen /f rw", 3, 0),
-    ("open /f rw+creat+excl+append", 1, 0),
-    ("open /f r+append\nopen /f w+trunc", 0, 2),
+    ("open /f rw+creat+excl+trunc+append", 1, 0),
+    ("open /f r+append\nopen /f w+trunc", 2, 0),
     ("open /f wr", 0, 1),
     ("open /f +creat", 0, 1),
     ("open /f r+excl+creat", 0, 1),
@@ -124,10 +124,14 @@ const CALLS: [(&str, usize, u32); 34] = [
     ("pread 0 5 -0", 0, 1),
     ("lseek 0 set 0\nlseek 0 cur -1\nlseek 0 end 1", 3, 0),
     ("lseek 0 begin 0", 0, 1),
-    ("rename /a /b\ntruncate /f 1", 0, 2),
+    ("open /f w+append+trunc", 0, 1),
+    ("rename /a /b\ntruncate /f 1\nftruncate 0 -1", 3, 0),
+    ("truncate /f 9223372036854775808", 0, 1),
+    ("ftruncate 0", 0, 1),
     ("rmdir /a\nunlink /f\n@room", 3, 0),
     ("rename /a", 0, 1),
-    ("@tree\n@work 1", 0, 1),
+    ("@tree\n@work 0\n@work 1000000000", 3, 0),
+    ("@work", 0, 1),
 ];
 
 // Whether a script has so many lines, or its first line outside the grammar has this number.
