@@ -2,5 +2,5 @@ pub mod Streams
 pub mod Coming
 pub mod LinesMore
 pub mod LineCount
-pub mod BuiltLaws
 pub mod SeatLaws
+pub mod LoadRuns

@@ -154,10 +154,15 @@ fails_at : (l : Limits) (s : State) (now : Now) (cause : Cause) → IsTrue (is_a
 fails_at l s (Up live) cause armed = (cause, refl, armed, refl)
 fails_at l s (Down past may) cause armed = (cause, refl, armed, refl)
 
-rose_by : (old new most : ℕ) (armed : Bool) → most ≤ old + one_if armed → old ≤ most → most < 2 ^ 63 → new ≤ most → (old < new) ⊎ (2 ^ 64 - 1 ≤ old) → IsTrue armed × (most ≤ new)
-rose_by old new most true bound low few le (inl more) = (refl, omega arith)
-rose_by old new most false bound low few le (inl more) = absurd (omega arith)
-rose_by old new most armed bound low few le (inr top) = absurd (omega arith)
+rose_by : (old new most : ℕ) (armed : Bool) → most ≤ old + one_if armed → old ≤ most → most < 2 ^ 63 → new ≤ most → min (old + 1) (2 ^ 64 - 1) ≤ new → IsTrue armed × (most ≤ new)
+rose_by old new most armed bound low few le least = by armed bound
+  where
+    more : old < new
+    more = omega arith
+
+    by : (armed : Bool) → most ≤ old + one_if armed → IsTrue armed × (most ≤ new)
+    by true bound = (refl, omega arith)
+    by false bound = absurd (omega arith)
 
 -- a device that a mount left shows that the life is down
 bare_shows : (m new : Machine) (s t : State) → Stores m s → Keeps m.stable new.stable → limits_in new ≡ limits_in m → t.now ≡ fallen_now s.now → AreArmed new t → ShowsBare new t

@@ -1,6 +1,5 @@
 -- How a run of the program ends.
-use Rattle.std.specs.Prelude.{None, ℕ, ◌≡◌, ◌≤◌, ◌<◌, ◌⊎◌, ◌++◌, take, Bool, true, false, nat_lt, if◌then◌else◌, List, [], ◌∷◌, length, codes, Option, Result, Ok, Err, IfSome}
-use Rattle.std.specs.Str.{bytes_eq}
+use Rattle.std.specs.Prelude.{None, ℕ, ◌≡◌, ◌≤◌, ◌<◌, ◌⊎◌, ◌++◌, take, nat_lt, if◌then◌else◌, List, [], ◌∷◌, length, codes, Option, Result, Ok, Err, IfSome}
 use Rattle.kfs_path.specs.declared.call.Reply.TheVariants as replies
 use Rattle.kfs_model.specs.declared.Line.{Line}
 use Rattle.kfs_model.specs.declared.Line.TheVariants as lines
@@ -11,9 +10,13 @@ use Rattle.kfs_script.specs.Script.{script_of}
 use Rattle.kfs_script.specs.AnswerText.{texts_of, and_number, newline}
 use Rattle.kevin.specs.declared.ending.Ending.{Ending}
 use Rattle.kevin.specs.declared.ending.Ending.TheVariants.{Quiet, Prints}
+use Rattle.kevin.specs.declared.words.Task.{Task}
+use Rattle.kevin.specs.declared.words.Task.TheVariants.{Nothing, Run, Make}
 use Rattle.kevin.specs.Outside.{HasRisen, Takes, TakesSome, IsReadOut}
 use Rattle.kevin.specs.Reading.{script_limit}
 use Rattle.kevin.specs.Numbers.{limits_of}
+use Rattle.kevin.specs.Words.{task_of}
+use Rattle.kevin.specs.Load.{load_text}
 
 -- what an end of the program tells: its bytes, where it tells them, and how often it failed
 pub record Side : Type 0 where
@@ -23,18 +26,12 @@ pub record Side : Type 0 where
 abbrev pub side : Option (List ℕ) → ℕ → Side
 side bytes faults = record { bytes = bytes; faults = faults }
 
--- `run` and one word more
-abbrev pub is_command : List (List ℕ) → Bool
-is_command [] = false
-is_command (word ∷ []) = false
-is_command (word ∷ image ∷ []) = bytes_eq word (codes "run")
-is_command (word ∷ image ∷ more ∷ others) = false
-
--- what words and a script come to: a status with its text, or the answers to the lines on a new
--- file system of so many blocks
+-- what words and a script come to: a status with its text, the answers to the lines on a new file
+-- system of so many blocks, or the line of a load
 pub data Due : Type 0 where
   Refused : (status : ℕ) (text : List ℕ) → Due
   Answered : (blocks : ℕ) (lines : List Line) → Due
+  Made : (seed : ℕ) (count : ℕ) (blocks : ℕ) → Due
 
 abbrev pub bad_words : List ℕ
 bad_words = codes "bad words" ++ newline
@@ -65,11 +62,11 @@ due_by (Ok (lines.Cut n how ∷ more)) = Refused 3 bad_image
 due_by (Ok (lines.Fail kind n ∷ more)) = Refused 3 bad_image
 due_by (Ok (lines.Call call ∷ more)) = Refused 3 bad_image
 
--- the words come first, then the script's length, then its lines
-unfoldable pub due : List (List ℕ) → List ℕ → Due
-due words bytes =
-    if is_command words then (if nat_lt script_limit (length bytes) then Refused 8 too_long else due_by (script_of bytes))
-    else Refused 1 bad_words
+-- what is asked for comes first, then the script's length, then its lines; a load takes no script
+unfoldable pub due : Task → List ℕ → Due
+due Nothing bytes = Refused 1 bad_words
+due Run bytes = if nat_lt script_limit (length bytes) then Refused 8 too_long else due_by (script_of bytes)
+due (Make seed count blocks) bytes = Made seed count blocks
 
 -- answers to the format of so many blocks and to the lines behind it: `ok`, and a life that begins
 -- with the tree of a root alone
@@ -97,20 +94,28 @@ pub record Overflows (blocks : ℕ) (ls : List Line) (most : ℕ) : Type 0 where
 -- the status and the text that are due; where the script was answered, the source was read to its end
 abbrev pub IsDue : Due → Option (List ℕ) → Option (List ℕ) → ℕ → List ℕ → Type 0
 IsDue (Refused due_status due_text) before now status text = (status ≡ due_status) × (text ≡ due_text)
+IsDue (Made seed count blocks) before now status text = (status ≡ 0) × (text ≡ load_text seed count blocks)
 IsDue (Answered blocks ls) before now status text =
     IsReadOut before now
     × (((status ≡ 0) × IsAnswered blocks ls output_limit text) ⊎ ((status ≡ 9) × (text ≡ too_much) × Overflows blocks ls output_limit))
 
--- the source failed, and so the script of a command was not read
-abbrev pub FailsToRead : List (List ℕ) → Side → Side → ℕ → Type 0
-FailsToRead words old new status = (status ≡ 4) × (is_command words ≡ true) × HasRisen old.faults new.faults
+-- the source failed, and so the script that is asked for was not read
+abbrev pub FailsToRead : Task → Side → Side → ℕ → Type 0
+FailsToRead task old new status = (status ≡ 4) × (task ≡ Run) × HasRisen old.faults new.faults
 
--- what a run comes to before its text is written: nothing to write where the source failed (4) or
--- memory was wanting (7), else what is due for the words and the source's bytes
+-- only a script takes something of the source
+abbrev pub LeavesSource : List (List ℕ) → Side → Side → Type 0
+LeavesSource words old new = (task_of words ≡ Run → ⊥) → new ≡ old
+
+-- what a task comes to before its text is written: nothing to write where the source failed (4) or
+-- memory was wanting (7), else what is due for it and the source's bytes
+abbrev pub TaskComesTo : Task → Side → Side → Ending → Type 0
+TaskComesTo task old new (Quiet status) = FailsToRead task old new status ⊎ (status ≡ 7)
+TaskComesTo task old new (Prints status text) =
+    (bytes : List ℕ) × IfSome old.bytes (λ all. bytes ≡ all) × IsDue (due task bytes) old.bytes new.bytes status text
+
 abbrev pub ComesTo : List (List ℕ) → Side → Side → Ending → Type 0
-ComesTo words old new (Quiet status) = FailsToRead words old new status ⊎ (status ≡ 7)
-ComesTo words old new (Prints status text) =
-    (bytes : List ℕ) × IfSome old.bytes (λ all. bytes ≡ all) × IsDue (due words bytes) old.bytes new.bytes status text
+ComesTo words old new ending = TaskComesTo (task_of words) old new ending
 
 -- the text stands whole behind what the sink got before, or the sink failed (5) and got a first
 -- part of it
@@ -124,6 +129,11 @@ IsWritten (Prints due_status text) old new status =
 abbrev pub Ends : List (List ℕ) → Side → Side → Side → Side → ℕ → Type 0
 Ends words source source_new sink sink_new status =
     (ending : Ending) × ComesTo words source source_new ending × IsWritten ending sink sink_new status
+
+-- what a load comes to
+abbrev pub IsLoadDue : ℕ → ℕ → ℕ → Ending → Type 0
+IsLoadDue seed count blocks (Quiet status) = status ≡ 7
+IsLoadDue seed count blocks (Prints status text) = (status ≡ 0) × (text ≡ load_text seed count blocks)
 
 -- what a script comes to once it is read
 abbrev pub IsScriptDue : Result (List Line) ℕ → Ending → Type 0

@@ -1,7 +1,10 @@
 pub mod Outside
 pub mod Reading
 pub mod Numbers
+pub mod Words
+pub mod Load
 pub mod Ending
 pub mod Lines
 pub mod Seats
 pub mod Causes
+pub mod Counts

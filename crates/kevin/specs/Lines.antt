@@ -1,7 +1,5 @@
 -- What doing lines gives.
-use Rattle.std.specs.Prelude.{ℕ, ◌≡◌, ◌≤◌, ◌<◌, ◌++◌, ◌∷◌, List, [], length, take, true}
-use Rattle.kfs_posix.specs.Built.{is_built}
-use Rattle.kfs_model.specs.declared.Line.TheVariants as lines
+use Rattle.std.specs.Prelude.{ℕ, ◌≡◌, ◌≤◌, ◌<◌, ◌++◌, ◌∷◌, List, [], length, take}
 use Rattle.kfs_model.specs.declared.Line.{Line}
 use Rattle.kfs_model.specs.declared.Answer.{Answer}
 use Rattle.kfs_model.specs.Tree.{Limits}
@@ -27,11 +25,3 @@ pub record OverflowsFrom (limits : Limits) (ls : List Line) (most : ℕ) (old : 
   pub life : Life limits newborn (take count ls) (given ++ last ∷ []) end
   pub below : length (old ++ texts_of given) ≤ most
   pub above : most < length (old ++ texts_of (given ++ last ∷ []))
-
--- the sessions do the call
-abbrev pub IsBuilt : Line → Type 0
-IsBuilt (lines.Call call) = is_built call ≡ true
-IsBuilt (lines.Format blocks) = Unit {0}
-IsBuilt lines.Mount = Unit {0}
-IsBuilt (lines.Cut n how) = Unit {0}
-IsBuilt (lines.Fail kind n) = Unit {0}

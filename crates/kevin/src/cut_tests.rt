@@ -3,7 +3,7 @@ ghost use Rattle.std.specs.Prelude.{◌≤◌, IfOk, length};
 
 use super::*;
 use kfs_path::{Call, Reply};
-use kfs_plain::PlainTree;
+use kfs_plain::{PlainTree, Totals};
 use kfs_script::{Answer, Line, read_script, write_answer};
 use kv_base::Memory;
 use std::test::Fail;
@@ -14,6 +14,7 @@ write 0 t:hello
 sync
 open /g w+creat
 write 1 f:5000:41
+ftruncate 1 3000
 fsync 1
 mkdir /a/b
 rename /a/f /a/b/f
@@ -25,12 +26,14 @@ mkdir /a
 pwrite 0 t:HE 0
 sync
 write 0 f:9000:42
+truncate /a/b/f 9001
 rmdir /a
 fsync 0
 rename /a /c
 sync
 open /c/b/h w+creat
 pwrite 1 t:xyz 8000
+open /c/b/f rw+trunc
 rename /c/b/h /c/b/f
 sync
 close 0
@@ -43,29 +46,21 @@ sync
 open /k w+creat
 ";
 
-const PROBES: &str = "list /
-list /a
-list /a/b
-list /c
+const PROBES: &str = "@tree
+list /
 list /c/b
-list /d
-stat /a/f
-stat /a/b/f
-stat /c/b/f
-stat /c/b/h
-stat /g
 ";
 
-// Whether a call that was answered so is a change, by the number of nodes before and after it.
-fn is_change(call: &Call, reply: &Reply, before: u64, after: u64) -> bool {
+// Whether a call that was answered so is a change, by what the tree held before and after it.
+fn is_change(call: &Call, reply: &Reply, before: &Totals, after: &Totals) -> bool {
     match call {
-        Call::Open { .. } => after > before,
-        Call::Close { .. } => after < before,
+        Call::Open { .. } => after.nodes > before.nodes || after.bytes < before.bytes,
+        Call::Close { .. } => after.nodes < before.nodes,
         Call::Write { .. } | Call::Pwrite { .. } => matches!(reply, Reply::Number(_)),
         Call::Mkdir { .. } | Call::Rmdir { .. } | Call::Unlink { .. } | Call::Rename { .. } => {
             matches!(reply, Reply::Done)
         }
-        Call::Truncate { .. } | Call::Ftruncate { .. } => matches!(reply, Reply::Done),
+        Call::Truncate { .. } | Call::Ftruncate { .. } => after.bytes != before.bytes,
         _ => false,
     }
 }
@@ -82,9 +77,9 @@ fn tree_after(alloc: Global, lines: &[Line], changes: u64) -> Result<PlainTree, 
             break;
         }
         if let Line::Call(call) = line {
-            let before = tree.totals().nodes;
+            let before = tree.totals();
             let reply = tree.step(alloc, call)?;
-            if is_change(call, &reply, before, tree.totals().nodes) {
+            if is_change(call, &reply, &before, &tree.totals()) {
                 done += 1;
             }
         }

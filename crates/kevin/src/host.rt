@@ -2,7 +2,6 @@
 ghost use Rattle.std.specs.Prelude.{◌≡◌, ◌≤◌, ◌<◌, ◌+◌, ◌-◌, ◌^◌, ℕ, false, max};
 ghost use Rattle.kfs_model.specs.Tree.{Limits};
 ghost use Rattle.kfs_model.specs.Life.{State, Event};
-ghost use Rattle.kevin.specs.Lines.{IsBuilt};
 ghost use Rattle.kfs_script.specs.Script.{IsLine, is_format};
 
 use kfs_script::{Answer, Line};
@@ -23,7 +22,6 @@ pub trait Host: Drop {
     fn answer(self, alloc: Global, line: &Line) -> (Self, Answer)
         requires line { IsLine line.now }
         requires format { is_format line.now ≡ false }
-        requires built { IsBuilt line.now }
         requires shown { (s : State) × shows self s }
         requires room { (limits self).keys ≤ 68544 }
         requires age { age self < 2 ^ 63 - 2 ^ 40 }

@@ -4,7 +4,7 @@ ghost use Rattle.kfs_script.specs.AnswerText.{texts_of};
 ghost use Rattle.kfs_model.specs.Life.{State, newborn};
 ghost use Rattle.kfs_script.specs.Script.{IsLine, is_format};
 ghost use Rattle.kevin.specs.Ending.{IsAnswered, Overflows};
-ghost use Rattle.kevin.specs.Lines.{AnsweredFrom, OverflowsFrom, IsBuilt};
+ghost use Rattle.kevin.specs.Lines.{AnsweredFrom, OverflowsFrom};
 ghost use Rattle.kevin.specs.declared.lines.Unanswered.TheVariants.{TooLong, Memory as NoMemory};
 
 use crate::host::Host;
@@ -44,7 +44,6 @@ pub fn answer_all<H: Host>(
     requires few { length lines.now ≤ 2 ^ 23 }
     requires lines { All IsLine lines.now }
     requires formats { All (λ line. is_format line ≡ false) lines.now }
-    requires built { All IsBuilt lines.now }
     requires room { (H.limits host).keys ≤ 68544 }
     requires short { length text.old ≤ most }
     ensures ok { OnOk result (AnsweredFrom (H.limits host) lines.now most text.old text.new) }
@@ -75,7 +74,6 @@ pub fn answer_lines(
     requires few { length lines.now ≤ 2 ^ 23 }
     requires lines { All IsLine lines.now }
     requires formats { All (λ line. is_format line ≡ false) lines.now }
-    requires built { All IsBuilt lines.now }
     requires room { 3 ≤ most }
     ensures ok { IfOk result (λ text. IsAnswered blocks lines.now most text) }
     ensures long { IfErr result (λ e. e ≡ TooLong → Overflows blocks lines.now most) }

@@ -2,13 +2,14 @@
 #![tactic(auto)]
 
 ghost use Rattle.std.specs.Prelude.{◌≡◌};
-ghost use Rattle.kevin.specs.Ending.{Ends, side, IsWritten};
+ghost use Rattle.kevin.specs.Ending.{Ends, LeavesSource, side, IsWritten};
 
 #[cfg(test)]
 mod cut_tests;
 mod ending;
 mod host;
 mod lines;
+mod load;
 mod memory;
 mod outside;
 mod reading;
@@ -19,6 +20,7 @@ mod seat;
 mod standard;
 #[cfg(test)]
 mod tests;
+mod words;
 mod writing;
 
 use crate::ending::Ending;
@@ -31,7 +33,7 @@ use std::process::ExitCode;
 use std::rt::Env;
 use std::{env, io};
 
-/// Runs a script on an image in memory, and answers the status.
+/// Runs a script on an image in memory, or makes a load, and answers the status.
 pub fn kevin<H: Shelf, S: Source, O: Sink>(
     alloc: Global,
     words: &Vec<Text>,
@@ -42,6 +44,7 @@ pub fn kevin<H: Shelf, S: Source, O: Sink>(
     ensures ends { Ends words.now.items
         (side (S.left script.old) (S.faults script.old)) (side (S.left script.new) (S.faults script.new))
         (side (O.got out.old) (O.faults out.old)) (side (O.got out.new) (O.faults out.new)) result }
+    ensures unread { LeavesSource words.now.items (side (S.left script.old) (S.faults script.old)) (side (S.left script.new) (S.faults script.new)) }
     ensures shelf { H.held shelf.new ≡ H.held shelf.old }
 {
     let _ = &shelf;

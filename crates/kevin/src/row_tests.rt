@@ -33,7 +33,7 @@ fn row_answers(alloc: Global, row: &str, answers: &str) -> Result<bool, Memory> 
     Ok(run_row(alloc, row)?.bytes() == want.bytes())
 }
 
-const FILES: [(&str, &str); 6] = [
+const FILES: [(&str, &str); 9] = [
     (
         "open /f rw+creat ; write 0 t:abc ; lseek 0 set 10000 ; write 0 t:Z ; pread 0 8 0 ; pread 0 8 8190 ; pread 0 100 9998 ; fstat 0",
         "ok 0 ; ok 3 ; ok 10000 ; ok 1 ; ok t:abc%00%00%00%00%00 ; ok t:%00%00%00%00%00%00%00%00 ; ok t:%00%00Z ; ok file 2 10001",
@@ -51,28 +51,47 @@ const FILES: [(&str, &str); 6] = [
         "err EINVAL ; err ENOENT ; ok 0 ; err EEXIST",
     ),
     (
-        "open /f rw+creat+append ; pwrite 0 t:abc 1048575 ; pwrite 0 t:a 1048576 ; write 0 t:a ; lseek 0 set -1",
-        "ok 0 ; ok 1 ; err EFBIG ; err EFBIG ; err EINVAL",
+        "open /f rw+creat+append ; pwrite 0 t:abc 1048575 ; pwrite 0 t:a 1048576 ; write 0 t:a ; lseek 0 set -1 ; ftruncate 0 2 ; write 0 t:xy ; pread 0 9 0",
+        "ok 0 ; ok 1 ; err EFBIG ; err EFBIG ; err EINVAL ; ok ; ok 2 ; ok t:%00%00xy",
     ),
-    ("fsync 0 ; sync ; @mount", "err EBADF ; ok ; mounted 0"),
+    (
+        "open /f rw+creat ; write 0 f:5000:41 ; ftruncate 0 1 ; ftruncate 0 5000 ; pread 0 3 0 ; pread 0 3 4998",
+        "ok 0 ; ok 5000 ; ok ; ok ; ok t:A%00%00 ; ok t:%00%00",
+    ),
+    (
+        "open /f w+creat ; truncate /f -1 ; truncate / 0 ; truncate /f/ 0 ; truncate /g 0 ; truncate /f 1048577 ; truncate /f 1048576 ; @room ; ftruncate 0 0 ; @room ; ftruncate 1 0",
+        "ok 0 ; err EINVAL ; err EISDIR ; err ENOTDIR ; err ENOENT ; err EFBIG ; ok ; room 261 4032 256 1472 ; ok ; room 5 4032 0 1472 ; err EBADF",
+    ),
+    (
+        "open /f w+creat ; write 0 t:abc ; open /f r ; open /f w+trunc ; fstat 1 ; read 1 5 ; write 0 t:z ; pread 1 9 0 ; open /f r+trunc ; open / w+trunc ; ftruncate 1 0",
+        "ok 0 ; ok 3 ; ok 1 ; ok 2 ; ok file 2 0 ; ok t: ; ok 1 ; ok t:%00%00%00z ; err EINVAL ; err EISDIR ; err EBADF",
+    ),
+    (
+        "fsync 0 ; @work 100 ; sync ; @mount",
+        "err EBADF ; ok ; ok ; mounted 0",
+    ),
 ];
 
-const NAMES: [(&str, &str); 4] = [
+const NAMES: [(&str, &str); 5] = [
     (
-        "open /f rw+creat ; write 0 t:hi ; unlink /f ; pread 0 2 0 ; stat /f ; @room ; sync ; @mount ; fstat 0 ; @room ; list /",
-        "ok 0 ; ok 2 ; ok ; ok t:hi ; err ENOENT ; room 6 4032 1 1472 ; ok ; mounted 3 ; err EBADF ; room 3 4032 0 1472 ; ok",
+        "open /f rw+creat ; write 0 t:hi ; unlink /f ; pread 0 2 0 ; stat /f ; @room ; sync ; @mount ; fstat 0 ; @room ; @tree",
+        "ok 0 ; ok 2 ; ok ; ok t:hi ; err ENOENT ; room 6 4032 1 1472 ; ok ; mounted 3 ; err EBADF ; room 3 4032 0 1472 ; tree 1 ; d /",
     ),
     (
         "mkdir /a ; mkdir /a/b ; rename /a /a/b/c ; mkdir /x ; rename /x /a ; rename /x /a/b ; stat /a/b ; list /",
         "ok ; ok ; err EINVAL ; ok ; err ENOTEMPTY ; ok ; ok dir 4 ; ok a",
     ),
     (
-        "open /f w+creat ; read 0 1 ; stat /f/ ; stat /f/.. ; unlink / ; rmdir / ; rmdir /. ; open / rw ; rename /f /f",
-        "ok 0 ; err EBADF ; err ENOTDIR ; err ENOTDIR ; err EPERM ; err EBUSY ; err EINVAL ; err EISDIR ; ok",
+        "open /f w+creat ; read 0 1 ; stat /f/ ; stat /f/.. ; unlink / ; rmdir / ; rmdir /. ; open / rw ; truncate /f 1048577 ; rename /f /f",
+        "ok 0 ; err EBADF ; err ENOTDIR ; err ENOTDIR ; err EPERM ; err EBUSY ; err EINVAL ; err EISDIR ; err EFBIG ; ok",
     ),
     (
         "mkdir /a ; open /a r ; rmdir /a ; fstat 0 ; list /a ; close 0 ; @room",
         "ok ; ok 0 ; ok ; ok dir 2 ; err ENOENT ; ok ; room 3 4032 0 1472",
+    ),
+    (
+        "mkdir /a ; open /a/f w+creat ; write 0 t:abc ; mkdir /B ; @tree",
+        "ok ; ok 0 ; ok 3 ; ok ; tree 4 ; d / ; d /B ; d /a ; f /a/f 3",
     ),
 ];
 

@@ -1,42 +1,59 @@
 // Scripts from their bytes to what they come to.
 ghost use Rattle.std.specs.Prelude.{◌≡◌, ◌≤◌, ◌∷◌, length, Ok, All, false};
 ghost use Rattle.kfs_script.specs.Script.{script_of, IsScript};
-ghost use Rattle.kevin.specs.Lines.{IsBuilt};
 ghost use Rattle.kfs_script.specs.Script.{IsLine, is_format};
 ghost use Rattle.kfs_model.specs.declared.Line.TheVariants as formats;
-ghost use Rattle.kevin.specs.Ending.{ComesTo, side, is_command, IsScriptDue};
+ghost use Rattle.kevin.specs.Ending.{ComesTo, LeavesSource, side, TaskComesTo, IsLoadDue, IsScriptDue};
 
 use crate::ending::{Ending, NO_MEMORY, line_refused, refused};
 use crate::lines::{Unanswered, answer_lines};
+use crate::load::load_line;
 use crate::outside::Source;
 use crate::reading::{Unread, read_to_end};
+use crate::words::{Task, task_of};
 use kfs_script::{Line, ScriptFault, read_script};
 use kv_base::Text;
 use std::alloc::Global;
 
-// `run` and one word more.
-fn is_command(words: &Vec<Text>) -> bool
-    ensures { result ≡ is_command words.now.items }
+/// What the words come to, with the script of a source where they ask for one.
+pub fn run_words<S: Source>(alloc: Global, words: &Vec<Text>, script: &mut S) -> Ending
+    ensures comes { ComesTo words.now.items (side (S.left script.old) (S.faults script.old)) (side (S.left script.new) (S.faults script.new)) result }
+    ensures unread { LeavesSource words.now.items (side (S.left script.old) (S.faults script.old)) (side (S.left script.new) (S.faults script.new)) }
 {
-    match words.as_slice() {
-        [word, _image] => word.bytes() == b"run".as_slice(),
-        _ => false,
+    match task_of(words) {
+        Task::Nothing => refused(alloc, 1, b"bad words\n"),
+        Task::Run => run_source(alloc, script),
+        Task::Make {
+            seed,
+            count,
+            blocks,
+        } => make_load(alloc, seed, count, blocks),
     }
 }
 
-/// What the words come to, and the script of a source where they ask for one.
-#[tactic(auto, unfolding(crate::specs::Ending::due))]
-pub fn run_words<S: Source>(alloc: Global, words: &Vec<Text>, script: &mut S) -> Ending
-    ensures { ComesTo words.now.items (side (S.left script.old) (S.faults script.old)) (side (S.left script.new) (S.faults script.new)) result }
+// What the script of a source comes to.
+fn run_source<S: Source>(alloc: Global, script: &mut S) -> Ending
+    ensures { TaskComesTo Task.Run (side (S.left script.old) (S.faults script.old)) (side (S.left script.new) (S.faults script.new)) result }
 {
-    if !is_command(words) {
-        return refused(alloc, 1, b"bad words\n");
-    }
     match read_to_end(alloc, script) {
         Ok(text) => run_script(alloc, text.bytes()),
         Err(Unread::Failed) => Ending::Quiet(4),
         Err(Unread::TooLong) => refused(alloc, 8, b"script too long\n"),
         Err(Unread::Memory) => Ending::Quiet(NO_MEMORY),
+    }
+}
+
+// What a load comes to.
+fn make_load(alloc: Global, seed: u64, count: u32, blocks: u16) -> Ending
+    requires count { 1 ≤ count }
+    requires most { count ≤ 20000 }
+    requires fewest { 256 ≤ blocks }
+    requires blocks { blocks ≤ 2048 }
+    ensures { IsLoadDue seed count blocks result }
+{
+    match load_line(alloc, seed, count, blocks) {
+        Ok(text) => Ending::Prints(0, text),
+        Err(_) => Ending::Quiet(NO_MEMORY),
     }
 }
 
@@ -56,7 +73,6 @@ fn run_script(alloc: Global, bytes: &[u8]) -> Ending
 fn run_lines(alloc: Global, lines: &[Line]) -> Ending
     requires lines { IsScript lines.now }
     requires few { length lines.now ≤ 8388608 }
-    requires built { All IsBuilt lines.now }
     ensures { IsScriptDue (Ok lines.now) result }
 {
     match lines.split_first() {
@@ -75,7 +91,6 @@ fn run_formatted(alloc: Global, blocks: u16, lines: &[Line]) -> Ending
     requires few { length lines.now ≤ 8388608 }
     requires lines { All IsLine lines.now }
     requires formats { All (λ line. is_format line ≡ false) lines.now }
-    requires built { All IsBuilt lines.now }
     ensures { IsScriptDue (Ok (formats.Format blocks ∷ lines.now)) result }
 {
     match answer_lines(alloc, blocks, lines, OUTPUT_LIMIT) {

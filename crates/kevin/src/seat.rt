@@ -1,7 +1,6 @@
 // A session over a device in memory, or that device alone where a mount failed.
 ghost use Rattle.std.specs.Prelude.{◌≡◌, ◌≤◌, ◌<◌, ◌-◌, ◌^◌, true, IfOk};
 ghost use Rattle.kfs_model.specs.Life.{newborn};
-ghost use Rattle.kfs_posix.specs.Built.{is_built};
 ghost use Rattle.kfs_path.specs.declared.call.Reply.TheVariants as replies;
 ghost use Rattle.kfs_model.specs.declared.Line.TheVariants as lines;
 ghost use Rattle.kfs_model.specs.declared.Answer.TheVariants as answers;
@@ -109,7 +108,6 @@ impl Seat {
     }
 
     fn call(self, alloc: Global, call: &Call) -> (Seat, Answer)
-        requires built { is_built call.now ≡ true }
         requires room { (seat_limits self).keys ≤ 68544 }
         requires age { seat_age self < 2 ^ 63 - 2 ^ 40 }
         ensures { SeatGoes self (lines.Call call.now) result.1 result.0 }

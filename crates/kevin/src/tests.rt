@@ -63,6 +63,50 @@ fn words_and_scripts_are_refused_with_their_text(rt: HostRuntime) -> Result<(), 
     Ok(())
 }
 
+// The numbers are those of another program, written from the rules of the generator and of the calls.
+#[test]
+fn a_load_writes_the_line_of_its_numbers(rt: HostRuntime) -> Result<(), Fail> {
+    let cases: [(&[&str], u8, &str); 12] = [
+        (
+            &["make", "0", "1", "256"],
+            0,
+            "calls 12 ok 11 err 1 changes 10 nodes 11 chunks 0 bytes 0\n",
+        ),
+        (
+            &["make", "18446744073709551615", "3", "300"],
+            0,
+            "calls 18 ok 17 err 1 changes 14 nodes 13 chunks 51 bytes 205305\n",
+        ),
+        (
+            &["make", "7", "2000", "256"],
+            0,
+            "calls 4459 ok 3729 err 730 changes 1479 nodes 161 chunks 1469 bytes 5868285\n",
+        ),
+        (&["make", "0", "0", "256"], 1, "bad words\n"),
+        (&["make", "0", "20001", "256"], 1, "bad words\n"),
+        (&["make", "0", "1", "255"], 1, "bad words\n"),
+        (&["make", "0", "1", "2049"], 1, "bad words\n"),
+        (&["make", "00", "1", "256"], 1, "bad words\n"),
+        (
+            &["make", "18446744073709551616", "1", "256"],
+            1,
+            "bad words\n",
+        ),
+        (&["make", "0", "+1", "256"], 1, "bad words\n"),
+        (&["make", "0", "1"], 1, "bad words\n"),
+        (&["make", "0", "1", "256", "0"], 1, "bad words\n"),
+    ];
+    for (words, status, text) in &cases {
+        let seen = run_on(rt.alloc(), words, b"", &[1], 100, &[])?;
+        assert_eq!(&rt; seen.status, *status, "for {text}");
+        assert_eq!(&rt; seen.got.bytes(), text.as_bytes(), "for {text}");
+    }
+    let seen = run_on(rt.alloc(), &["make", "0", "1", "256"], b"", &[], 8, &[])?;
+    assert_eq!(&rt; seen.status, 5);
+    assert_eq!(&rt; seen.got.bytes(), b"calls 12".as_slice());
+    Ok(())
+}
+
 // Runs `run img` on these lines with ample room, and gives the lines of the output.
 fn answers_to(alloc: Global, lines: &[&str]) -> Result<Seen, Memory> {
     let mut script = Text::new(alloc, b"")?;

@@ -1,29 +1,17 @@
-use Rattle.std.proofs.Common.{◌≡◌, ◌∙◌, sym, true, false, List, ℕ, subst}
-use Rattle.kfs_script.specs.Script.{script_of}
-use Rattle.kevin.specs.declared.reading.Unread.{Unread}
-use Rattle.kevin.specs.Reading.{StopsReading}
-use Rattle.kevin.specs.Ending.{is_command, side, IsScriptDue}
-use Rattle.kevin.proofs.Coming.{words_refused, length_refused, script_comes}
+use Rattle.std.proofs.Common.{subst}
+use Rattle.kevin.specs.declared.words.Task.{Task}
+use Rattle.kevin.specs.Ending.{side, TaskComesTo}
+use Rattle.kevin.proofs.Coming.{words_refused, load_comes}
 use Rattle.kevin.proofs.running.run_words.Goals as goal
 
-pub returns-then-not-is_command : goal.returns-then-not-is_command
-returns-then-not-is_command g c =
+pub returns-in-Nothing-clause-comes : goal.returns-in-Nothing-clause-comes
+returns-in-Nothing-clause-comes g c =
     let here = side (g.S.Source.left c.args.script.now) (g.S.Source.faults c.args.script.now) in
-    let other : is_command c.args.words.now.items ≡ false = sym c.is_command.ensures ∙ c.if-not-is_command.true in
-    words_refused c.args.words.now.items here here c.refused.result other c.refused.ensures
+    let T : Task → Type 0 = λ t. TaskComesTo t here here c.refused.result in
+    subst T c.in-Nothing.ensures.task (words_refused here here c.refused.result c.refused.ensures)
 
-pub returns-in-Ok : goal.returns-in-Ok
-returns-in-Ok g c =
-    let before = side (g.S.Source.left c.args.script.now) (g.S.Source.faults c.args.script.now) in
-    let now = side (g.S.Source.left c.read_to_end.new.source) (g.S.Source.faults c.read_to_end.new.source) in
-    let ours : is_command c.args.words.now.items ≡ true = sym c.is_command.ensures ∙ c.if-not-is_command.false in
-    let P : List ℕ → Type 0 = λ bytes. IsScriptDue (script_of bytes) c.run_script.result in
-    script_comes c.args.words.now.items before now c.in-Ok.text c.run_script.result ours c.in-Ok.ensures.whole c.in-Ok.ensures.limit (subst P c.bytes.ensures c.run_script.ensures)
-
-pub returns-in-Err-TooLong : goal.returns-in-Err-TooLong
-returns-in-Err-TooLong g c =
-    let before = side (g.S.Source.left c.args.script.now) (g.S.Source.faults c.args.script.now) in
-    let now = side (g.S.Source.left c.read_to_end.new.source) (g.S.Source.faults c.read_to_end.new.source) in
-    let ours : is_command c.args.words.now.items ≡ true = sym c.is_command.ensures ∙ c.if-not-is_command.false in
-    let P : Unread → Type 0 = λ cause. StopsReading before.bytes before.faults cause now.bytes now.faults in
-    length_refused c.args.words.now.items before now c.refused-in-Err-TooLong.result ours (subst P c.in-Err-TooLong.field-0-is c.in-Err-TooLong.ensures.stops) c.refused-in-Err-TooLong.ensures
+pub returns-in-Make-clause-comes : goal.returns-in-Make-clause-comes
+returns-in-Make-clause-comes g c =
+    let here = side (g.S.Source.left c.args.script.now) (g.S.Source.faults c.args.script.now) in
+    let T : Task → Type 0 = λ t. TaskComesTo t here here c.make_load.result in
+    subst T c.in-Make.ensures.task (load_comes here here c.in-Make.seed c.in-Make.count c.in-Make.blocks c.make_load.result c.make_load.ensures)

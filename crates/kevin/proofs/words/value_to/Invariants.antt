@@ -1,0 +1,10 @@
+use Rattle.std.proofs.Common.{◌≡◌, ◌+◌, ◌*◌, ◌<◌, ◌^◌, drop}
+use Rattle.kfs_script.specs.Script.{number_on}
+use Rattle.kevin.proofs.words.value_to.Given as goal
+
+-- the value so far, and what the digits that are left make of it
+abbrev pub invariant-loop-digit : goal.invariant-loop-digit
+invariant-loop-digit l = record {
+  told : number_on l.value (drop l.digit-index l.digits) ≡ number_on 0 l.digits;
+  small : l.value < 10 * 2 ^ 64 + 300;
+}
