@@ -7,3 +7,4 @@ pub mod Opened
 pub mod Taking
 pub mod Written
 pub mod Stepping
+pub mod RunBlocks
