@@ -1,0 +1,147 @@
+#!/usr/bin/env python3
+"""Lets each allocation of the proved program fail in turn, over the rows of crates/kevin/src/row_tests.rt.
+
+usage: examples/want_of_memory.py [PROGRAM]     (crates/kevin/out/kevin, which `rt run` in crates/kevin leaves)
+
+Two mounts are added to each row. Each run must end with status 7 and no text, or answer as wanted up to one line
+that answers `down nomem`; the lines behind it answer `off` up to the next mount, and that mount goes on from no
+change before the last sync that answered. Of a row with more than 1,500 allocations every so many is tried. The status is 1 where a run
+does otherwise. It wants cc, since the allocator is told by a library that is loaded before the C library.
+"""
+import os
+import re
+import shutil
+import subprocess
+import sys
+import tempfile
+
+FAILING = r"""
+#define _GNU_SOURCE
+#include <dlfcn.h>
+#include <stdio.h>
+#include <stdlib.h>
+#include <unistd.h>
+static unsigned long count, at;
+static void *(*take)(size_t), *(*again)(void *, size_t);
+__attribute__((constructor)) static void begin(void) {
+    take = dlsym(RTLD_NEXT, "malloc");
+    again = dlsym(RTLD_NEXT, "realloc");
+    at = strtoul(getenv("FAIL_ALLOCATION"), 0, 10);
+    count = 0;
+}
+__attribute__((destructor)) static void end(void) {
+    char text[32];
+    int length = snprintf(text, sizeof text, "%lu", count);
+    if (write(2, text, length) < 0) _exit(9);
+}
+static char early[65536];
+static size_t used;
+void *malloc(size_t n) {
+    if (!take) { void *p = early + used; used += (n + 15) & ~15ul; return p; }
+    return ++count == at ? NULL : take(n);
+}
+void *realloc(void *p, size_t n) {
+    if (!again) return malloc(n);
+    return ++count == at ? NULL : again(p, n);
+}
+"""
+
+
+def rows_of(path):
+    """The rows of the tests: lines and answers. The rows that fill the device are one."""
+    pair = r'\(\s*"((?:[^"\\]|\\.)*)",\s*"((?:[^"\\]|\\.)*)",?\s*\)'
+    source = open(path).read()
+    begin, end = source.index("const FULL"), source.index("fn all_answer")
+    full = re.findall(pair, source[begin:end])
+    rows = re.findall(pair, source[:begin] + source[end:])
+    rows.append((" ; ".join(lines for lines, _ in full), " ; ".join(answers for _, answers in full)))
+    return [(["@format 256"] + lines.split(" ; "), ["ok"] + answers.split(" ; ")) for lines, answers in rows]
+
+
+def by_line(lines, told):
+    """The answers line by line, those of `@tree` with what they list; None where they don't come out even."""
+    answers, at = [], 0
+    for _ in lines:
+        if at >= len(told):
+            return None
+        tree = re.match(r"tree (\d+)$", told[at])
+        more = 1 + (int(tree.group(1)) if tree else 0)
+        answers.append("\n".join(told[at : at + more]))
+        at += more
+    return answers if at == len(told) else None
+
+
+def kept_by(lines, want, run):
+    """For each line the number that a mount behind it must at least tell: that of the last sync before it."""
+    kept, least = [], 0
+    for i, line in enumerate(lines):
+        kept.append(least)
+        if line.split()[0] in ("sync", "fsync") and want[i] == "ok":
+            _, text, _ = run(lines[: i + 1] + ["@mount"], 0)
+            least = int(text.split()[-1])
+    return kept
+
+
+def fault_of(lines, want, kept, status, text):
+    """What is wrong with a run in which an allocation failed, or None."""
+    if status == 7:
+        return "text at status 7" if text else None
+    answers = by_line(lines, text.splitlines())
+    if status != 0 or answers is None:
+        return f"status {status}"
+    if answers == want:
+        return None
+    at = next(i for i in range(len(lines)) if answers[i] != want[i])
+    if answers[at] != "down nomem":
+        return f"{lines[at]} answers {answers[at]}"
+    for i in range(at + 1, len(lines)):
+        if lines[i] == "@mount":
+            if not answers[i].startswith("mounted ") or int(answers[i].split()[1]) < kept[at]:
+                return f"the mount answers {answers[i]}"
+            return None
+        if answers[i] != ("ok" if lines[i].startswith(("@cut", "@fail")) else "off"):
+            return f"{lines[i]} answers {answers[i]} while it is down"
+    return None
+
+
+def main():
+    here = os.path.dirname(os.path.dirname(os.path.abspath(__file__)))
+    program = os.path.abspath(sys.argv[1] if len(sys.argv) > 1 else here + "/crates/kevin/out/kevin")
+    folder = tempfile.mkdtemp()
+    with open(folder + "/failing.c", "w") as source:
+        source.write(FAILING)
+    library = folder + "/failing.so"
+    subprocess.run(["cc", "-shared", "-fPIC", "-o", library, folder + "/failing.c", "-ldl"], check=True)
+
+    def run(lines, n):
+        done = subprocess.run(
+            [program, "run", "image"],
+            input="".join(line + "\n" for line in lines),
+            capture_output=True,
+            text=True,
+            env={"LD_PRELOAD": library, "FAIL_ALLOCATION": str(n)},
+        )
+        return done.returncode, done.stdout, int(done.stderr)
+
+    runs, wrong = 0, 0
+    for lines, want in rows_of(here + "/crates/kevin/src/row_tests.rt"):
+        status, text, _ = run(lines, 0)
+        if status != 0 or text.splitlines() != want:
+            sys.exit(f"the row doesn't answer as it should: {' ; '.join(lines)}")
+        lines = lines + ["@mount", "@mount"]
+        _, text, count = run(lines, 0)
+        want = by_line(lines, text.splitlines())
+        kept = kept_by(lines, want, run)
+        for n in range(1, count + 1, 1 + count // 1500):
+            status, text, _ = run(lines, n)
+            fault = fault_of(lines, want, kept, status, text)
+            runs += 1
+            if fault:
+                wrong += 1
+                print(f"allocation {n}: {fault}: {' ; '.join(lines)}")
+    shutil.rmtree(folder)
+    print(f"{runs} runs, {wrong} wrong")
+    sys.exit(1 if wrong else 0)
+
+
+main()
