@@ -6,11 +6,12 @@ use Rattle.kv_nand.specs.declared.fault.FlashFault.{FlashFault}
 use Rattle.kv_nand.specs.declared.fault.FlashFault.TheVariants as flash_faults
 use Rattle.kv_nand.specs.Faults.{flash_fault}
 use Rattle.kv_nand.specs.Flash.{Flash, IsSound}
-use Rattle.kv_nand.specs.Calls.{has_read, ReadFault, up}
+use Rattle.kv_base.specs.Counts.{one_more}
+use Rattle.kv_nand.specs.Calls.{has_read, ReadFault}
 use Rattle.kssd_model.specs.OnlyReading.{OnlyReads, ReadStopsBy, StopsReading}
 
-up_at_least : (n : ℕ) → n < 2 ^ 64 → n ≤ up n
-up_at_least n h = omega arith
+one_more_at_least : (n : ℕ) → n < 2 ^ 64 → n ≤ one_more n
+one_more_at_least n h = omega arith
 
 pub reads_still : (old : Flash) → OnlyReads old old
 reads_still old = record { after = refl; more = omega arith }
@@ -29,14 +30,14 @@ reads_then_stops a b c fault ab bc = record { after = by fault bc.after; more = 
 
     by : (fault : FlashFault) → ReadStopsBy b fault c → ReadStopsBy a fault c
     by flash_faults.Off h = (sym on ∙ h.0, h.1 ∙ (λ i. record (ab.after i) { reads = c.reads }))
-    by flash_faults.Failed h = (sym on ∙ h.0, h.1 ∙ (λ i. record (ab.after i) { reads = c.reads; faults = up (ab.after i).faults }))
+    by flash_faults.Failed h = (sym on ∙ h.0, h.1 ∙ (λ i. record (ab.after i) { reads = c.reads; faults = one_more (ab.after i).faults }))
     by flash_faults.Memory h = h ∙ (λ i. record (ab.after i) { reads = c.reads })
 
 -- one page was read
 pub one_read : (old new : Flash) → IsSound old → new ≡ has_read old → OnlyReads old new
 one_read old new sound e = record {
   after = e ∙ (λ i. record old { reads = (sym e i).reads });
-  more = omega (arith, ap (λ f. f.reads) e, up_at_least old.reads sound.reads);
+  more = omega (arith, ap (λ f. f.reads) e, one_more_at_least old.reads sound.reads);
 }
 
 -- the read of one page fell
@@ -46,8 +47,8 @@ read_falls old new before filled nand_faults.Off sound h = record {
   more = omega (arith, ap (λ f. f.reads) h.1);
 }
 read_falls old new before filled nand_faults.Failed sound h = record {
-  after = (h.0, h.1 ∙ (λ i. record old { reads = (sym h.1 i).reads; faults = up old.faults }));
-  more = omega (arith, ap (λ f. f.reads) h.1, up_at_least old.reads sound.reads);
+  after = (h.0, h.1 ∙ (λ i. record old { reads = (sym h.1 i).reads; faults = one_more old.faults }));
+  more = omega (arith, ap (λ f. f.reads) h.1, one_more_at_least old.reads sound.reads);
 }
 
 -- memory ran out, and nothing was read

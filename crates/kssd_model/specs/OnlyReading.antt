@@ -3,7 +3,7 @@ use Rattle.std.specs.Prelude.{◌≡◌, ◌≤◌, ℕ, true, false}
 use Rattle.kv_nand.specs.declared.fault.FlashFault.{FlashFault}
 use Rattle.kv_nand.specs.declared.fault.FlashFault.TheVariants.{Off, Failed, Memory}
 use Rattle.kv_nand.specs.Flash.{Flash}
-use Rattle.kv_nand.specs.Calls.{up}
+use Rattle.kv_base.specs.Counts.{one_more}
 
 -- it did nothing but read, so that only the count of reads may have risen
 pub record OnlyReads (old new : Flash) : Type 0 where
@@ -13,7 +13,7 @@ pub record OnlyReads (old new : Flash) : Type 0 where
 -- the fault by which it stopped: the power was off before, a read failed, or memory ran out
 abbrev pub ReadStopsBy : Flash → FlashFault → Flash → Type 0
 ReadStopsBy old Off new = (old.powered ≡ false) × (new ≡ record old { reads = new.reads })
-ReadStopsBy old Failed new = (old.powered ≡ true) × (new ≡ record old { reads = new.reads; faults = up old.faults })
+ReadStopsBy old Failed new = (old.powered ≡ true) × (new ≡ record old { reads = new.reads; faults = one_more old.faults })
 ReadStopsBy old Memory new = new ≡ record old { reads = new.reads }
 
 -- it did nothing but read, and stopped by this fault

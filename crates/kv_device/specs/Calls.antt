@@ -1,5 +1,6 @@
 -- What each call of a device answers, and what it leaves.
-use Rattle.std.specs.Prelude.{min, ◌+◌, ◌≡◌, ℕ, ◌-◌, ◌^◌, ◌≤◌, ◌⊎◌, Bool, true, false, not, ◌&&◌, ◌||◌, if◌then◌else◌, nat_lt, nat_le, is_some, unwrap_or, List, length, map, take, Option, Some, None}
+use Rattle.std.specs.Prelude.{◌+◌, ◌≡◌, ℕ, ◌^◌, ◌≤◌, ◌⊎◌, Bool, true, false, not, ◌&&◌, ◌||◌, if◌then◌else◌, nat_lt, nat_le, is_some, unwrap_or, List, length, map, take, Option, Some, None}
+use Rattle.kv_base.specs.Counts.{one_more}
 use Rattle.std.specs.FinMap as objects
 use Rattle.kv_device.specs.declared.fault.DeviceFault.{DeviceFault}
 use Rattle.kv_device.specs.declared.fault.DeviceFault.TheVariants.{NoTx, Busy, TxFull, Full, BadSize, Off, Failed, Memory}
@@ -38,9 +39,9 @@ has_room m after = nat_le (objects.len after) m.room_keys && nat_le (page_count 
 
 -- ---- outside causes
 
--- a count rose, within its bound; at its end it stays
+-- a count rose by one, within its bound; at its end it stays
 abbrev pub Rises : ℕ → ℕ → ℕ → Type 0
-Rises old new most = (new ≤ most) × (min (old + 1) (2 ^ 64 - 1) ≤ new)
+Rises old new most = (new ≤ most) × (new ≡ one_more old)
 
 abbrev pub IsCutOff : Machine → Machine → Type 0
 IsCutOff old new = Rises old.cuts new.cuts old.most_cuts × (new ≡ record (down old) { cuts = new.cuts })

@@ -1,5 +1,6 @@
 -- The device as a machine: its state, and what calls do to it.
-use Rattle.std.specs.Prelude.{min, ◌^◌, ◌-◌, ◌+◌, ℕ, Bool, true, false, is_some, is_none, unwrap_or, List, [], ◌∷◌, sum_by, position, slice_get, slice_set, Option, Some, None}
+use Rattle.std.specs.Prelude.{ℕ, Bool, true, false, is_some, is_none, unwrap_or, List, [], ◌∷◌, sum_by, position, slice_get, slice_set, Option, Some, None}
+use Rattle.kv_base.specs.Counts.{one_more}
 use Rattle.std.specs.Option.{option_and_then}
 use Rattle.std.specs.FinMap as objects
 use Rattle.kv_device.specs.Objects.{Objects, Changes, seen_through}
@@ -80,7 +81,7 @@ restarted m = record (down m) { up = true }
 
 -- a cut is planned
 abbrev pub with_most_cuts : Machine → Machine
-with_most_cuts m = record m { most_cuts = min (m.cuts + 1) (2 ^ 64 - 1) }
+with_most_cuts m = record m { most_cuts = one_more m.cuts }
 
 -- a fault is planned, or none
 abbrev pub with_most_faults : Machine → ℕ → Machine

@@ -1,5 +1,6 @@
 -- Planned failures of a device in memory, and which call of `end` each strikes.
-use Rattle.std.specs.Prelude.{◌≡◌, ℕ, ◌+◌, ◌-◌, ◌^◌, ◌≤◌, min, ◌⊎◌, Bool, true, false, nat_le, nat_lt, nat_eq, ◌&&◌, Option, Some, None, unwrap_or, if◌then◌else◌}
+use Rattle.std.specs.Prelude.{◌≡◌, ℕ, ◌-◌, ◌≤◌, ◌⊎◌, Bool, true, false, nat_le, nat_lt, nat_eq, ◌&&◌, Option, Some, None, unwrap_or, if◌then◌else◌}
+use Rattle.kv_base.specs.Counts.{one_more}
 use Rattle.std.specs.FinMap as objects
 use Rattle.kv_device.specs.declared.fault.DeviceFault.{DeviceFault}
 use Rattle.kv_device.specs.declared.fault.DeviceFault.TheVariants.{Off, Failed, Memory}
@@ -55,8 +56,8 @@ with_fault p kind n = record { cut = p.cut; fault = if nat_eq kind 1 then Some n
 -- the bounds leave room for the strike, whose plan is over
 abbrev pub StrikeFits : Option Strike → Machine → Plans → Type 0
 StrikeFits None m p = Unit {0}
-StrikeFits (Some Fault) m p = (min (m.faults + 1) (2 ^ 64 - 1) ≤ m.most_faults) × (p.fault ≡ None)
-StrikeFits (Some (Cut keeps)) m p = (min (m.cuts + 1) (2 ^ 64 - 1) ≤ m.most_cuts) × (p.cut ≡ None)
+StrikeFits (Some Fault) m p = (one_more m.faults ≤ m.most_faults) × (p.fault ≡ None)
+StrikeFits (Some (Cut keeps)) m p = (one_more m.cuts ≤ m.most_cuts) × (p.cut ≡ None)
 
 -- it has changes, and isn't refused
 abbrev pub is_counted : Machine → ℕ → Bool

@@ -1,5 +1,5 @@
 -- Runs of the machine.
-use Rattle.std.specs.Prelude.{◌≡◌, List, [], ◌∷◌, Result, Ok, Err}
+use Rattle.std.specs.Prelude.{◌≡◌, ℕ, List, [], ◌∷◌, take, Result, Ok, Err}
 use Rattle.kv_device.specs.declared.fault.DeviceFault.{DeviceFault}
 use Rattle.kv_device.specs.Machine.{Machine}
 use Rattle.kv_device.specs.Calls.{BeginDone, BeginFault, GetDone, ReadFault, SetDone, SetFault, DeleteDone, DeleteFault, IterateDone, EndDone, EndFault, AbortDone, AbortFault, WorkDone, WorkFault}
@@ -41,3 +41,7 @@ Run old [] [] new = new ≡ old
 Run old (command ∷ commands) (answer ∷ answers) new = (mid : Machine) × Step old command answer mid × Run mid commands answers new
 Run old [] (answer ∷ answers) new = ⊥
 Run old (command ∷ commands) [] new = ⊥
+
+-- some first ones of these commands were answered, and no other was asked
+abbrev pub RunsPart : Machine → List Command → Machine → Type 0
+RunsPart old commands new = (count : ℕ) × (answers : List (Result Reply DeviceFault)) × Run old (take count commands) answers new

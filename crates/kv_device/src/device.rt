@@ -1,5 +1,6 @@
 // A device that keeps objects, with transactions.
-ghost use Rattle.std.specs.Prelude.{◌≡◌, ◌≤◌, ◌<◌, ◌+◌, ◌-◌, ◌^◌, ℕ, min, IfOk, OnOk, IfErr};
+ghost use Rattle.std.specs.Prelude.{◌≡◌, ◌≤◌, ◌<◌, ◌-◌, ◌^◌, ℕ, IfOk, OnOk, IfErr};
+ghost use Rattle.kv_base.specs.Counts.{one_more};
 ghost use Rattle.kv_device.specs.Machine.{Machine, with_most_cuts, with_most_faults};
 ghost use Rattle.kv_device.specs.Calls.{BeginDone, BeginFault, GetDone, ReadFault, SetDone, SetFault, DeleteDone, DeleteFault, IterateDone, EndDone, EndFault, AbortDone, AbortFault, WorkDone, WorkFault, IsSound, Ages, set_ages};
 
@@ -100,6 +101,6 @@ pub trait PlannedDevice: Device {
         requires kind { kind ≤ 2 }
         ensures planned { Self.machine self.new ≡ with_most_faults (Self.machine self.old) (Self.machine self.new).most_faults }
         ensures fewest { (Self.machine self.old).faults ≤ (Self.machine self.new).most_faults }
-        ensures most { (Self.machine self.new).most_faults ≤ min ((Self.machine self.old).faults + 1) (2 ^ 64 - 1) }
+        ensures most { (Self.machine self.new).most_faults ≤ one_more (Self.machine self.old).faults }
         ensures age { Self.age self.new ≡ Self.age self.old };
 }

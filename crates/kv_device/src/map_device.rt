@@ -1,5 +1,6 @@
 // A device in memory.
-ghost use Rattle.std.specs.Prelude.{◌≡◌, ◌≤◌, ◌<◌, ◌-◌, ◌^◌, ◌+◌, ◌==◌, true, false, Some, None, IfOk, IfErr, OnOk, OnErr, option_copied, IsSome, min, length, unwrap_or};
+ghost use Rattle.std.specs.Prelude.{◌≡◌, ◌≤◌, ◌<◌, ◌-◌, ◌^◌, ◌==◌, true, false, Some, None, IfOk, IfErr, OnOk, OnErr, option_copied, IsSome, length, unwrap_or};
+ghost use Rattle.kv_base.specs.Counts.{one_more};
 ghost use Rattle.std.specs.FinMap as objects;
 ghost use Rattle.kv_device.specs.Objects.{page_count};
 
@@ -28,8 +29,8 @@ pub struct MapDevice {
     ghost has_pages: { page_count stable.map ≤ room_pages },
     ghost counted: { cuts ≤ most_cuts },
     ghost failed: { faults ≤ most_faults },
-    ghost cut_planned: { IsSome plans.cut → min (cuts + 1) (2 ^ 64 - 1) ≤ most_cuts },
-    ghost fault_planned: { IsSome plans.fault → min (faults + 1) (2 ^ 64 - 1) ≤ most_faults },
+    ghost cut_planned: { IsSome plans.cut → one_more cuts ≤ most_cuts },
+    ghost fault_planned: { IsSome plans.fault → one_more faults ≤ most_faults },
     ghost small: { room_keys ≤ 2 ^ 32 - 641 },
     ghost has_room: { objects.len stable.map ≤ room_keys },
 }
@@ -221,7 +222,7 @@ impl MapDevice {
     fn cut_end(&mut self, alloc: Global, tx: TxId, keeps: bool) -> DeviceFault
         requires open { first_of (machine_of self.old) tx.0 None ≡ None }
         requires room { has_room (machine_of self.old) (view (machine_of self.old) tx.0) ≡ true }
-        requires fits { min (self.old.cuts + 1) (2 ^ 64 - 1) ≤ self.old.most_cuts }
+        requires fits { one_more self.old.cuts ≤ self.old.most_cuts }
         requires over { self.old.plans.cut ≡ None }
         ensures err { EndFault (machine_of self.old) tx.0 result (machine_of self.new) }
         ensures struck { IsStruck (Some (Strike.Cut keeps)) (machine_of self.old) tx.0 result (machine_of self.new) }
@@ -240,7 +241,7 @@ impl MapDevice {
 
     fn cut(&mut self)
         requires over { self.old.plans.cut ≡ None }
-        requires fits { min (self.old.cuts + 1) (2 ^ 64 - 1) ≤ self.old.most_cuts }
+        requires fits { one_more self.old.cuts ≤ self.old.most_cuts }
         ensures cut { IsCutOff (machine_of self.old) (machine_of self.new) }
         ensures plans { plans_of self.new ≡ plans_of self.old }
     {
@@ -250,7 +251,7 @@ impl MapDevice {
 
     fn fail(&mut self)
         requires over { self.old.plans.fault ≡ None }
-        requires fits { min (self.old.faults + 1) (2 ^ 64 - 1) ≤ self.old.most_faults }
+        requires fits { one_more self.old.faults ≤ self.old.most_faults }
         ensures failed { HasFailed (machine_of self.old) (machine_of self.new) }
         ensures plans { plans_of self.new ≡ plans_of self.old }
     {
@@ -437,7 +438,8 @@ impl PlannedDevice for MapDevice {
     fn plan_fail(&mut self, kind: u8, n: u32)
         ensures planned { machine_of self.new ≡ with_most_faults (machine_of self.old) (machine_of self.new).most_faults }
         ensures fewest { (machine_of self.old).faults ≤ (machine_of self.new).most_faults }
-        ensures most { (machine_of self.new).most_faults ≤ min ((machine_of self.old).faults + 1) (2 ^ 64 - 1) }
+        ensures most { (machine_of self.new).most_faults ≤ one_more (machine_of self.old).faults }
+        ensures bound { (machine_of self.new).most_faults ≡ one_more (machine_of self.old).faults }
         ensures plans { plans_of self.new ≡ with_fault (plans_of self.old) kind n }
     {
         self.most_faults = self.faults.saturating_add(1);

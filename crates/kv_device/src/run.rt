@@ -1,7 +1,7 @@
 // Commands to a device, one after another.
-ghost use Rattle.std.specs.Prelude.{IfOk, ◌<◌, ◌-◌, ◌^◌, ◌+◌, ◌*◌, length};
+ghost use Rattle.std.specs.Prelude.{IfOk, OnErr, ◌<◌, ◌-◌, ◌^◌, ◌+◌, ◌*◌, length};
 ghost use Rattle.kv_device.specs.Calls.{Ages};
-ghost use Rattle.kv_device.specs.Run.{Step, Run};
+ghost use Rattle.kv_device.specs.Run.{Step, Run, RunsPart};
 
 use crate::{Device, DeviceFault, TxId};
 use kv_base::{Key, Memory, Pairs, Value};
@@ -101,14 +101,17 @@ pub fn serve<D: Device>(
     }
 }
 
-/// The answers to all commands, in order. They are a run of the machine.
+/// The answers to all commands, in order. They are a run of the machine; for want of memory the device
+/// was asked some first ones.
 pub fn run_all<D: Device>(
     alloc: Global,
     device: &mut D,
     commands: &[Command],
 ) -> Result<Vec<Result<Reply, DeviceFault>>, Memory>
     requires { D.age device.old + length commands.now * 2 ^ 20 < 2 ^ 63 - 2 ^ 38 }
-    ensures { IfOk result (λ answers. Run (D.machine device.old) commands.now answers.items (D.machine device.new)) }
+    ensures ok { IfOk result (λ answers. Run (D.machine device.old) commands.now answers.items (D.machine device.new)) }
+    ensures err { OnErr result (RunsPart (D.machine device.old) commands.now (D.machine device.new)) }
+    ensures age { Ages (D.age device.old) (D.age device.new) (length commands.now * 2 ^ 20) }
 {
     let mut answers = Vec::new(alloc);
     for command in commands {

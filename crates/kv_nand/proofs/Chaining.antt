@@ -7,14 +7,15 @@ use Rattle.kv_nand.specs.declared.fault.FlashFault.{FlashFault}
 use Rattle.kv_nand.specs.declared.fault.FlashFault.TheVariants as flash_faults
 use Rattle.kv_nand.specs.Faults.{flash_fault}
 use Rattle.kv_nand.specs.Flash.{Flash, IsSound}
-use Rattle.kv_nand.specs.Calls.{Falls, programmed, erased, has_read, ReadFault, up}
+use Rattle.kv_base.specs.Counts.{one_more}
+use Rattle.kv_nand.specs.Calls.{Falls, programmed, erased, has_read, ReadFault}
 use Rattle.kv_nand.specs.Working.{Counts, Works, Stops, StopsBy, worked}
 
-up_at_most : (n : ℕ) → up n ≤ n + 1
-up_at_most n = omega arith
+one_more_at_most : (n : ℕ) → one_more n ≤ n + 1
+one_more_at_most n = omega arith
 
-up_at_least : (n : ℕ) → n < 2 ^ 64 → n ≤ up n
-up_at_least n h = omega arith
+one_more_at_least : (n : ℕ) → n < 2 ^ 64 → n ≤ one_more n
+one_more_at_least n h = omega arith
 
 pub counts_then_counts : (a b c : Flash) (ops reads more_ops more_reads : ℕ) → Counts a b ops reads → Counts b c more_ops more_reads → Counts a c (ops + more_ops) (reads + more_reads)
 counts_then_counts a b c ops reads more_ops more_reads ab bc = record {
@@ -40,20 +41,20 @@ no_counts old new e = record {
   reads_at_least = omega (arith, ap (λ f. f.reads) e);
 }
 
-one_operation : (old new : Flash) → IsSound old → new.ops ≡ up old.ops → new.reads ≡ old.reads → Counts old new 1 0
+one_operation : (old new : Flash) → IsSound old → new.ops ≡ one_more old.ops → new.reads ≡ old.reads → Counts old new 1 0
 one_operation old new sound ops reads = record {
-  ops_at_most = omega (arith, up_at_most old.ops);
-  ops_at_least = omega (arith, up_at_least old.ops sound.ops);
+  ops_at_most = omega (arith, one_more_at_most old.ops);
+  ops_at_least = omega (arith, one_more_at_least old.ops sound.ops);
   reads_at_most = omega arith;
   reads_at_least = omega arith;
 }
 
-one_read : (old new : Flash) → IsSound old → new.ops ≡ old.ops → new.reads ≡ up old.reads → Counts old new 0 1
+one_read : (old new : Flash) → IsSound old → new.ops ≡ old.ops → new.reads ≡ one_more old.reads → Counts old new 0 1
 one_read old new sound ops reads = record {
   ops_at_most = omega arith;
   ops_at_least = omega arith;
-  reads_at_most = omega (arith, up_at_most old.reads);
-  reads_at_least = omega (arith, up_at_least old.reads sound.reads);
+  reads_at_most = omega (arith, one_more_at_most old.reads);
+  reads_at_least = omega (arith, one_more_at_least old.reads sound.reads);
 }
 
 pub works_then_works : (a b c : Flash) (ops reads more_ops more_reads : ℕ) → Works a b ops reads → Works b c more_ops more_reads → Works a c (ops + more_ops) (reads + more_reads)
@@ -74,9 +75,9 @@ works_then_stops a b c fault ops reads more_ops more_reads ab bc = record {
     by : (fault : FlashFault) → StopsBy b fault c → StopsBy a fault c
     by flash_faults.Off h = elim h [
       | inl p ↦ inl (sym on ∙ p.0, p.1 ∙ (λ i. worked (ab.after i) c))
-      | inr p ↦ inr (sym on ∙ p.0, p.1 ∙ (λ i. record (worked (ab.after i) c) { powered = false; cuts = up (ab.after i).cuts }))
+      | inr p ↦ inr (sym on ∙ p.0, p.1 ∙ (λ i. record (worked (ab.after i) c) { powered = false; cuts = one_more (ab.after i).cuts }))
     ]
-    by flash_faults.Failed h = (sym on ∙ h.0, h.1 ∙ (λ i. record (worked (ab.after i) c) { faults = up (ab.after i).faults }))
+    by flash_faults.Failed h = (sym on ∙ h.0, h.1 ∙ (λ i. record (worked (ab.after i) c) { faults = one_more (ab.after i).faults }))
     by flash_faults.Memory h = h ∙ (λ i. worked (ab.after i) c)
 
 pub works_within : (old new : Flash) (ops reads more_ops more_reads : ℕ) → Works old new ops reads → ops ≤ more_ops → reads ≤ more_reads → Works old new more_ops more_reads
@@ -122,12 +123,12 @@ falls_stops old new nand_faults.Off sound h = elim h [
     counts = counts_within old new 0 0 1 0 (no_counts old new p.1) (omega arith) (omega arith);
   }
   | inr p ↦ record {
-    after = inr (p.0, p.1 ∙ counted old new (λ f. record f { image = new.image; powered = false; cuts = up f.cuts; ops = up f.ops }) p.1);
+    after = inr (p.0, p.1 ∙ counted old new (λ f. record f { image = new.image; powered = false; cuts = one_more f.cuts; ops = one_more f.ops }) p.1);
     counts = one_operation old new sound (ap (λ f. f.ops) p.1) (ap (λ f. f.reads) p.1);
   }
 ]
 falls_stops old new nand_faults.Failed sound h = record {
-  after = (h.0, h.1 ∙ counted old new (λ f. record f { image = new.image; faults = up f.faults; ops = up f.ops }) h.1);
+  after = (h.0, h.1 ∙ counted old new (λ f. record f { image = new.image; faults = one_more f.faults; ops = one_more f.ops }) h.1);
   counts = one_operation old new sound (ap (λ f. f.ops) h.1) (ap (λ f. f.reads) h.1);
 }
 
@@ -138,7 +139,7 @@ read_stops old new before filled nand_faults.Off sound h = record {
   counts = counts_within old new 0 0 0 1 (no_counts old new h.1) (omega arith) (omega arith);
 }
 read_stops old new before filled nand_faults.Failed sound h = record {
-  after = (h.0, h.1 ∙ counted old new (λ f. record f { reads = up f.reads; faults = up f.faults }) h.1);
+  after = (h.0, h.1 ∙ counted old new (λ f. record f { reads = one_more f.reads; faults = one_more f.faults }) h.1);
   counts = one_read old new sound (ap (λ f. f.ops) h.1) (ap (λ f. f.reads) h.1);
 }
 

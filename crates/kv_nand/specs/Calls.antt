@@ -1,5 +1,6 @@
 -- What each call of a flash answers, and what it leaves.
-use Rattle.std.specs.Prelude.{◌≡◌, ◌⊎◌, ◌≤◌, ◌+◌, ◌-◌, ◌^◌, ℕ, true, false, List, Option, Some, None, min}
+use Rattle.std.specs.Prelude.{◌≡◌, ◌⊎◌, ◌≤◌, ℕ, true, false, List, Option, Some, None}
+use Rattle.kv_base.specs.Counts.{one_more}
 use Rattle.kv_nand.specs.declared.fault.NandFault.{NandFault}
 use Rattle.kv_nand.specs.declared.fault.NandFault.TheVariants.{Off, Failed}
 use Rattle.kv_nand.specs.declared.nand.OpKind.{OpKind}
@@ -7,17 +8,13 @@ use Rattle.kv_nand.specs.declared.nand.PageKind.{PageKind}
 use Rattle.kv_nand.specs.declared.nand.PageKind.TheVariants as kinds
 use Rattle.kv_nand.specs.Flash.{Flash, Image, PageState, Erased, Whole, Cut, with_page, with_erased}
 
--- a count goes up by one, and stays at its greatest number
-abbrev pub up : ℕ → ℕ
-up n = min (n + 1) (2 ^ 64 - 1)
-
 -- the page is programmed with these bytes
 abbrev pub programmed : Flash → ℕ → List ℕ → Flash
-programmed f page bytes = record f { image = with_page f.image page (Whole bytes); ops = up f.ops }
+programmed f page bytes = record f { image = with_page f.image page (Whole bytes); ops = one_more f.ops }
 
 -- the block is erased
 abbrev pub erased : Flash → ℕ → Flash
-erased f block = record f { image = with_erased f.image block; ops = up f.ops }
+erased f block = record f { image = with_erased f.image block; ops = one_more f.ops }
 
 -- the power is on
 abbrev pub powered_on : Flash → Flash
@@ -25,23 +22,23 @@ powered_on f = record f { powered = true }
 
 -- a page was read
 abbrev pub has_read : Flash → Flash
-has_read f = record f { reads = up f.reads }
+has_read f = record f { reads = one_more f.reads }
 
 -- power was cut in an operation that left this image
 abbrev pub cut_off : Flash → Image → Flash
-cut_off f image = record f { image = image; powered = false; cuts = up f.cuts; ops = up f.ops }
+cut_off f image = record f { image = image; powered = false; cuts = one_more f.cuts; ops = one_more f.ops }
 
 -- an operation failed and left this image
 abbrev pub failed : Flash → Image → Flash
-failed f image = record f { image = image; faults = up f.faults; ops = up f.ops }
+failed f image = record f { image = image; faults = one_more f.faults; ops = one_more f.ops }
 
 -- a read failed
 abbrev pub read_failed : Flash → Flash
-read_failed f = record f { reads = up f.reads; faults = up f.faults }
+read_failed f = record f { reads = one_more f.reads; faults = one_more f.faults }
 
 -- one more cut may come
 abbrev pub with_most_cuts : Flash → Flash
-with_most_cuts f = record f { most_cuts = up f.cuts }
+with_most_cuts f = record f { most_cuts = one_more f.cuts }
 
 -- `Off` where there was no power, or power was cut; `Failed` where the operation failed
 abbrev pub Falls : Flash → NandFault → Flash → Type 0
@@ -72,5 +69,5 @@ ReadFault old before Failed after new = (old.powered ≡ true) × (new ≡ read_
 
 -- a fault of this kind is planned: at most one more fault may come
 pub record PlansFault (old : Flash) (kind : OpKind) (new : Flash) : Type 0 where
-  pub most : new.most_faults ≤ up old.faults
+  pub most : new.most_faults ≤ one_more old.faults
   pub after : new ≡ record old { most_faults = new.most_faults; fails = Some kind }

@@ -3,7 +3,7 @@ use Rattle.std.specs.Prelude.{◌≡◌, ◌⊎◌, ◌≤◌, ◌+◌, ℕ, tru
 use Rattle.kv_nand.specs.declared.fault.FlashFault.{FlashFault}
 use Rattle.kv_nand.specs.declared.fault.FlashFault.TheVariants.{Off, Failed, Memory}
 use Rattle.kv_nand.specs.Flash.{Flash}
-use Rattle.kv_nand.specs.Calls.{up}
+use Rattle.kv_base.specs.Counts.{one_more}
 
 -- at most so many operations and reads were begun, and no count fell
 pub record Counts (old new : Flash) (ops reads : ℕ) : Type 0 where
@@ -25,8 +25,8 @@ pub record Works (old new : Flash) (ops reads : ℕ) : Type 0 where
 abbrev pub StopsBy : Flash → FlashFault → Flash → Type 0
 StopsBy old Off new =
     ((old.powered ≡ false) × (new ≡ worked old new))
-    ⊎ ((old.powered ≡ true) × (new ≡ record (worked old new) { powered = false; cuts = up old.cuts }))
-StopsBy old Failed new = (old.powered ≡ true) × (new ≡ record (worked old new) { faults = up old.faults })
+    ⊎ ((old.powered ≡ true) × (new ≡ record (worked old new) { powered = false; cuts = one_more old.cuts }))
+StopsBy old Failed new = (old.powered ≡ true) × (new ≡ record (worked old new) { faults = one_more old.faults })
 StopsBy old Memory new = new ≡ worked old new
 
 -- it stopped by this fault within so many operations and reads, the one that fell counted

@@ -8,7 +8,8 @@ use Rattle.kv_nand.specs.declared.nand.PageKind.{PageKind}
 use Rattle.kv_nand.specs.declared.nand.Outcome.{Outcome}
 use Rattle.kv_nand.specs.declared.nand.Outcome.TheVariants as outcomes
 use Rattle.kv_nand.specs.Flash.{Flash, Image, Erased, with_page}
-use Rattle.kv_nand.specs.Calls.{up, Shows, has_read, read_failed, powered_on, with_most_cuts}
+use Rattle.kv_base.specs.Counts.{one_more}
+use Rattle.kv_nand.specs.Calls.{Shows, has_read, read_failed, powered_on, with_most_cuts}
 use Rattle.nand_mem.specs.declared.plan.Fate.{Fate}
 use Rattle.nand_mem.specs.declared.plan.Fate.TheVariants as fates
 use Rattle.nand_mem.specs.declared.plan.CutPlan.{CutPlan}
@@ -47,13 +48,13 @@ fresh blocks = record (made (λ _. Erased) blocks) { flash = powered_on (made (�
 
 -- one more program or erase was begun
 abbrev pub begun : Flash → Flash
-begun f = record f { ops = up f.ops }
+begun f = record f { ops = one_more f.ops }
 
 -- what a fate does to power and counts
 abbrev pub struck : Fate → Flash → Flash
 struck fates.Done f = f
-struck (fates.Cut outcome) f = record f { powered = false; cuts = up f.cuts }
-struck fates.Fails f = record f { faults = up f.faults }
+struck (fates.Cut outcome) f = record f { powered = false; cuts = one_more f.cuts }
+struck fates.Fails f = record f { faults = one_more f.faults }
 
 -- the answer to a program or an erase of this fate
 abbrev pub answer_of : Fate → Result (Unit {0}) NandFault
@@ -121,6 +122,6 @@ planned_cut m n outcome = record m { flash = with_most_cuts m.flash; cut = Some 
 -- a plan of a fault takes the place of the old one of any kind
 abbrev pub planned_fault : Mem → OpKind → ℕ → Mem
 planned_fault m kind n = record m {
-  flash = record m.flash { most_faults = up m.flash.faults; fails = Some kind };
+  flash = record m.flash { most_faults = one_more m.flash.faults; fails = Some kind };
   fail = Some (record { kind = kind; n = n });
 }

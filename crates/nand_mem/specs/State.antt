@@ -2,7 +2,7 @@
 use Rattle.std.specs.Prelude.{◌≡◌, ◌<◌, ◌≤◌, ◌*◌, ◌^◌, length, Some}
 use Rattle.std.specs.Option.{ForSome}
 use Rattle.kv_nand.specs.Flash.{Flash}
-use Rattle.kv_nand.specs.Calls.{up}
+use Rattle.kv_base.specs.Counts.{one_more}
 use Rattle.nand_mem.specs.declared.state.State.{State}
 use Rattle.nand_mem.specs.Slots.{image_of}
 use Rattle.nand_mem.specs.Machine.{Mem}
@@ -38,6 +38,6 @@ pub record IsMem (m : State) : Type 0 where
   pub ops : m.ops < 2 ^ 64
   pub most_cuts : m.most_cuts < 2 ^ 64
   pub most_faults : m.most_faults < 2 ^ 64
-  pub cut_armed : ForSome m.cut (λ _. up m.cuts ≤ m.most_cuts)
-  pub fail_armed : ForSome m.fail (λ _. up m.faults ≤ m.most_faults)
+  pub cut_armed : ForSome m.cut (λ _. one_more m.cuts ≤ m.most_cuts)
+  pub fail_armed : ForSome m.fail (λ _. one_more m.faults ≤ m.most_faults)
   pub kind_armed : ForSome m.fail (λ plan. m.fails ≡ Some plan.kind)

@@ -1,5 +1,6 @@
 // All that a flash in memory keeps, and its operations while there is power.
-ghost use Rattle.std.specs.Prelude.{◌≡◌, ◌≤◌, ◌<◌, ◌+◌, ◌-◌, ◌*◌, ◌^◌, ℕ, true, min, length, IfOk};
+ghost use Rattle.std.specs.Prelude.{◌≡◌, ◌≤◌, ◌<◌, ◌*◌, ℕ, true, length, IfOk};
+ghost use Rattle.kv_base.specs.Counts.{one_more};
 ghost use Rattle.kv_nand.specs.Flash.{Erased};
 ghost use Rattle.nand_mem.specs.Slots.{state_of};
 ghost use Rattle.nand_mem.specs.Plans.{fate_of, cut_after, fail_after};
@@ -31,7 +32,7 @@ pub struct State {
 
 /// One more; a count stays at its greatest number.
 pub fn up(n: u64) -> u64
-    ensures { result ≡ min (n + 1) (2 ^ 64 - 1) }
+    ensures { result ≡ one_more n }
 {
     n.saturating_add(1)
 }
