@@ -133,7 +133,7 @@ impl PagePacker {
         self.add(bytes);
     }
 
-    /// The page of the entries taken. They stay.
+    /// The page of the entries taken.
     pub fn finish(&mut self, head: PageHead) -> &PageData
         ensures { result.now ≡ page_bytes head self.old.bytes self.old.count }
     {

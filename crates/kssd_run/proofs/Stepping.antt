@@ -16,7 +16,7 @@ use Rattle.kssd_model.specs.declared.runs.RunInfo.{RunInfo}
 use Rattle.kssd_model.specs.RunPages.{run_page, of_run, run_page_in, page_of_run, page_entries, joined, first_key, AreRunBlocks}
 use Rattle.kssd_run.specs.declared.writer.RunWriter.{RunWriter}
 use Rattle.kssd_run.specs.Write.{IsWriter, HoldsPage, waiting_pages}
-use Rattle.kssd_run.specs.Writing.{Writes, AreWaiting}
+use Rattle.kssd_run.specs.Writing.{Writes, AreWaiting, IsFullFor, AreFullPages}
 use Rattle.kssd_run.proofs.PageSizes.{few_entries}
 use Rattle.kssd_run.proofs.Written.{joined_same}
 
@@ -143,6 +143,11 @@ writer_erases info firsts waiting filling waits closed begun h same room = recor
   shut = h.shut;
 }
 
+-- a page that has no room for the first of some entries has none whatever stands behind it
+full_for_first : (page xs ys : List Entry) → 0 < length xs → IsFullFor page (xs ++ ys) → IsFullFor page xs
+full_for_first page [] ys some h = tt
+full_for_first page (x ∷ xs) ys some h = h
+
 -- what was fed stays, with one page more programmed
 pub writes_programs : (device : ℕ) (old new : RunWriter) (before after : Image) (fed : List Entry) (first : List ℕ) → AreRunBlocks device old.info.blocks → old.info.pages < 32 * length old.info.blocks → old.waits ≡ true
     → after ≡ with_page before (run_page old.info.blocks old.info.pages) (Whole (page_bytes (next_head old.info) old.waiting.bytes old.waiting.count))
@@ -161,6 +166,9 @@ writes_programs device old new before after fed first runs room w is first_is in
   filled = subst (λ (f : RunInfo). (i : ℕ) → i < f.pages → 0 < length (page_entries after f.number f.blocks i)) (sym info) filled;
   firsts = subst (λ (f : RunInfo). (i : ℕ) → i < f.pages → get_or new.firsts i [] ≡ first_key (page_entries after f.number f.blocks i)) (sym info) first_keys;
   later = subst (λ (f : RunInfo). (i : ℕ) → f.pages ≤ i → i < 32 * new.begun → after (run_page f.blocks i) ≡ Erased) (sym info) later;
+  full = subst (λ (f : RunInfo). AreFullPages (page_entries after f.number f.blocks) f.pages) (sym info) full;
+  full_last = subst (λ (f : RunInfo). (i : ℕ) → i + 1 ≡ f.pages → IsFullFor (page_entries after f.number f.blocks i) h.filling) (sym info) full_last;
+  full_waiting = λ w. absurd (true≢false (sym w ∙ waits));
 }
   where
     holds : HoldsPage (next_head old.info) old.waiting h.waiting
@@ -221,6 +229,21 @@ writes_programs device old new before after fed first runs room w is first_is in
     first_keys : (i : ℕ) → i < old.info.pages + 1 → get_or new.firsts i [] ≡ first_key (page_entries after old.info.number old.info.blocks i)
     first_keys = each (λ i. get_or new.firsts i [] ≡ first_key (page_entries after old.info.number old.info.blocks i)) (λ i lt. ap (λ (ks : List (List ℕ)). get_or ks i []) firsts ∙ get_or_append_left old.firsts (first ∷ []) [] i (omega (arith, lt, counted)) ∙ h.firsts i lt ∙ ap first_key (sym (same_entries i lt))) (ap (λ (ks : List (List ℕ)). get_or ks old.info.pages []) firsts ∙ get_or_push old.firsts first [] old.info.pages counted ∙ first_is h.waiting holds ∙ ap first_key (sym last_entries))
 
+    full : AreFullPages (page_entries after old.info.number old.info.blocks) (old.info.pages + 1)
+    full i lt = elim (cases_lt (i + 1) old.info.pages) [
+      | inl less ↦
+          subst (λ (es : List Entry). IsFullFor (page_entries after old.info.number old.info.blocks i) es) (sym (same_entries (i + 1) less))
+          (subst (λ (es : List Entry). IsFullFor es (page_entries before old.info.number old.info.blocks (i + 1))) (sym (same_entries i (omega (arith, less)))) (h.full i less))
+      | inr more ↦
+          let e : i + 1 ≡ old.info.pages = omega (arith, lt, more) in
+          subst (λ (es : List Entry). IsFullFor (page_entries after old.info.number old.info.blocks i) es) (sym last_entries ∙ ap (page_entries after old.info.number old.info.blocks) (sym e))
+          (subst (λ (es : List Entry). IsFullFor es h.waiting) (sym (same_entries i (omega (arith, e)))) (full_for_first (page_entries before old.info.number old.info.blocks i) h.waiting h.filling some (h.full_last i e)))
+    ]
+
+    full_last : (i : ℕ) → i + 1 ≡ old.info.pages + 1 → IsFullFor (page_entries after old.info.number old.info.blocks i) h.filling
+    full_last i e =
+        subst (λ (es : List Entry). IsFullFor es h.filling) (sym last_entries ∙ ap (page_entries after old.info.number old.info.blocks) (let n : old.info.pages ≡ i = omega (arith, e) in n)) (h.full_waiting w)
+
     later : (i : ℕ) → old.info.pages + 1 ≤ i → i < 32 * new.begun → after (run_page old.info.blocks i) ≡ Erased
     later i le lt =
         stays i (omega (arith, lt, begun, old.sound.housed)) (λ e. absurd (omega (arith, e, le)))
@@ -243,6 +266,9 @@ writes_erases device old new before after fed runs room all is info firsts waiti
   filled = subst (λ (f : RunInfo). (i : ℕ) → i < f.pages → 0 < length (page_entries after f.number f.blocks i)) (sym info) (λ i lt. subst (λ (es : List Entry). 0 < length es) (sym (same_entries i lt)) (h.filled i lt));
   firsts = subst (λ (f : RunInfo). (i : ℕ) → i < f.pages → get_or new.firsts i [] ≡ first_key (page_entries after f.number f.blocks i)) (sym info) (λ i lt. ap (λ (ks : List (List ℕ)). get_or ks i []) firsts ∙ h.firsts i lt ∙ ap first_key (sym (same_entries i lt)));
   later = subst (λ (f : RunInfo). (i : ℕ) → f.pages ≤ i → i < 32 * new.begun → after (run_page f.blocks i) ≡ Erased) (sym info) later;
+  full = subst (λ (f : RunInfo). AreFullPages (page_entries after f.number f.blocks) f.pages) (sym info) full;
+  full_last = subst (λ (f : RunInfo). (i : ℕ) → i + 1 ≡ f.pages → IsFullFor (page_entries after f.number f.blocks i) (h.waiting ++ h.filling)) (sym info) full_last;
+  full_waiting = λ w. h.full_waiting (sym waits ∙ w);
 }
   where
     block_of : (q : ℕ) → after q ≡ cond (nat_eq (q / 32) (get_or old.info.blocks old.begun 0)) Erased (before q)
@@ -265,6 +291,14 @@ writes_erases device old new before after fed runs room all is info firsts waiti
     whole =
         ap (λ (f : RunInfo). joined (page_entries after f.number f.blocks) f.pages) info
         ∙ joined_same (page_entries after old.info.number old.info.blocks) (page_entries before old.info.number old.info.blocks) old.info.pages same_entries
+
+    full : AreFullPages (page_entries after old.info.number old.info.blocks) old.info.pages
+    full i lt =
+        subst (λ (es : List Entry). IsFullFor (page_entries after old.info.number old.info.blocks i) es) (sym (same_entries (i + 1) lt))
+        (subst (λ (es : List Entry). IsFullFor es (page_entries before old.info.number old.info.blocks (i + 1))) (sym (same_entries i (omega (arith, lt)))) (h.full i lt))
+
+    full_last : (i : ℕ) → i + 1 ≡ old.info.pages → IsFullFor (page_entries after old.info.number old.info.blocks i) (h.waiting ++ h.filling)
+    full_last i e = subst (λ (es : List Entry). IsFullFor es (h.waiting ++ h.filling)) (sym (same_entries i (omega (arith, e)))) (h.full_last i e)
 
     later : (i : ℕ) → old.info.pages ≤ i → i < 32 * new.begun → after (run_page old.info.blocks i) ≡ Erased
     later i le lt =

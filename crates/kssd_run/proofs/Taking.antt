@@ -12,7 +12,7 @@ use Rattle.kssd_entry.specs.Spelling.{size_of, entry_bytes, entries_bytes, FitsE
 use Rattle.kssd_entry.proofs.Filling.{length-entry_bytes}
 use Rattle.kssd_model.specs.declared.runs.RunInfo.{RunInfo}
 use Rattle.kssd_run.specs.Write.{IsWriter, TakesEntry, waiting_pages}
-use Rattle.kssd_run.specs.Writing.{Writes, AreWaiting}
+use Rattle.kssd_run.specs.Writing.{Writes, AreWaiting, IsFullFor, AreFullPages}
 use Rattle.kssd_run.specs.declared.writer.RunWriter.{RunWriter}
 use Rattle.kv_nand.specs.Flash.{Image, Erased}
 use Rattle.kssd_model.specs.Rising.{is_rising}
@@ -107,10 +107,15 @@ pub nothing_waits : (waits : Bool) (packer : Packed) (entries : List Entry) → 
 nothing_waits true packer entries h e = absurd cc
 nothing_waits false packer entries h e = h
 
+-- a page that has no room for the first of some entries has none either when more are behind it
+pub full_for_more : (page xs ys : List Entry) → 0 < length xs → IsFullFor page xs → IsFullFor page (xs ++ ys)
+full_for_more page [] ys some h = absurd (omega (arith, some))
+full_for_more page (x ∷ xs) ys some h = h
+
 -- what the writer stands for
-pub writes_takes : (old new : RunWriter) (image : Image) (fed : List Entry) (e : Entry) → Writes old image fed → old.waits ≡ false → FitsEntry e → TakesEntry old.waiting old.filling e new.waits new.waiting new.filling → is_rising (fed ++ e ∷ []) ≡ true
+pub writes_takes : (old new : RunWriter) (image : Image) (fed : List Entry) (e : Entry) → Writes old image fed → old.waits ≡ false → old.closed ≡ false → FitsEntry e → TakesEntry old.waiting old.filling e new.waits new.waiting new.filling → is_rising (fed ++ e ∷ []) ≡ true
     → new.info ≡ record (old.info) { entries = old.info.entries + 1 } → new.firsts ≡ old.firsts → new.begun ≡ old.begun → Writes new image (fed ++ e ∷ [])
-writes_takes old new image fed e h w fits takes rising info firsts begun = by new.waits takes refl
+writes_takes old new image fed e h w o fits takes rising info firsts begun = by new.waits takes refl
   where
     none : h.waiting ≡ []
     none = nothing_waits old.waits old.waiting h.waiting h.waits w
@@ -142,6 +147,21 @@ writes_takes old new image fed e h w fits takes rising info firsts begun = by ne
     later : (i : ℕ) → new.info.pages ≤ i → i < 32 * new.begun → image (run_page new.info.blocks i) ≡ Erased
     later = subst (λ (f : RunInfo). (i : ℕ) → f.pages ≤ i → i < 32 * new.begun → image (run_page f.blocks i) ≡ Erased) (sym info) (λ i le lt. h.later i le (omega (arith, begun)))
 
+    full : AreFullPages (page_entries image new.info.number new.info.blocks) new.info.pages
+    full = subst (λ (f : RunInfo). AreFullPages (page_entries image f.number f.blocks) f.pages) (sym info) h.full
+
+    -- once a page was programmed, the page that is filled has entries
+    fills_some : 0 < old.info.pages → 0 < length h.filling
+    fills_some lt = omega (arith, lt, old.sound.some o (omega (arith, lt, old.sound.full o)), ap (λ (p : Packed). p.count) h.fills)
+
+    last : (i : ℕ) → i + 1 ≡ old.info.pages → IsFullFor (page_entries image old.info.number old.info.blocks i) (h.filling ++ e ∷ [])
+    last i is =
+        full_for_more (page_entries image old.info.number old.info.blocks i) h.filling (e ∷ []) (fills_some (omega (arith, is)))
+        (subst (λ (ws : List Entry). IsFullFor (page_entries image old.info.number old.info.blocks i) (ws ++ h.filling)) none (h.full_last i is))
+
+    full_last : (i : ℕ) → i + 1 ≡ new.info.pages → IsFullFor (page_entries image new.info.number new.info.blocks i) (h.filling ++ e ∷ [])
+    full_last = subst (λ (f : RunInfo). (i : ℕ) → i + 1 ≡ f.pages → IsFullFor (page_entries image f.number f.blocks i) (h.filling ++ e ∷ [])) (sym info) last
+
     bytes_are : length old.filling.bytes ≡ length (entries_bytes h.filling)
     bytes_are = ap (λ (p : Packed). length p.bytes) h.fills
 
@@ -165,6 +185,9 @@ writes_takes old new image fed e h w fits takes rising info firsts begun = by ne
       filled = filled;
       firsts = first_keys;
       later = later;
+      full = full;
+      full_last = full_last;
+      full_waiting = λ waits. absurd (let b : true ≡ false = sym waits ∙ is in cc);
     }
     by true t is = record {
       waiting = h.filling;
@@ -179,4 +202,59 @@ writes_takes old new image fed e h w fits takes rising info firsts begun = by ne
       filled = filled;
       firsts = first_keys;
       later = later;
+      full = full;
+      full_last = full_last;
+      full_waiting = λ _. omega (arith, bytes_are, t.0);
     }
+
+-- what a writer without entries stands for
+pub writes_nothing : (writer : RunWriter) (image : Image) → writer.info.pages ≡ 0 → writer.info.entries ≡ 0 → writer.begun ≡ 0 → writer.waits ≡ false → writer.filling ≡ packed [] → Writes writer image []
+writes_nothing writer image pages entries begun waits filling = record {
+  waiting = [];
+  filling = [];
+  parts = sym (ap (λ (n : ℕ). joined (page_entries image writer.info.number writer.info.blocks) n ++ ([] ++ [])) pages);
+  waits = subst (λ (b : Bool). AreWaiting b writer.waiting []) (sym waits) refl;
+  fills = filling;
+  fits = tt;
+  rising = refl;
+  count = sym entries;
+  pages = λ i lt. absurd (omega (arith, lt, pages));
+  filled = λ i lt. absurd (omega (arith, lt, pages));
+  firsts = λ i lt. absurd (omega (arith, lt, pages));
+  later = λ i le lt. absurd (omega (arith, lt, begun));
+  full = λ i lt. absurd (omega (arith, lt, pages));
+  full_last = λ i e. absurd (omega (arith, e, pages));
+  full_waiting = λ _. tt;
+}
+
+-- what a writer stands for once its last page is closed
+pub writes_closes : (old new : RunWriter) (image : Image) (fed : List Entry) → Writes old image fed → old.waits ≡ false → 0 < old.filling.count → new.info ≡ old.info → new.firsts ≡ old.firsts → new.begun ≡ old.begun → new.waiting ≡ old.filling → new.filling ≡ packed [] → new.waits ≡ true → Writes new image fed
+writes_closes old new image fed h w some info firsts begun waiting filling waits = record {
+  waiting = h.filling;
+  filling = [];
+  parts = fed_is;
+  waits = subst (λ (b : Bool). AreWaiting b new.waiting h.filling) (sym waits) (waiting ∙ h.fills, omega (arith, some, ap (λ (p : Packed). p.count) h.fills), omega (arith, bytes_are, old.sound.fill_room), h.fits);
+  fills = filling;
+  fits = tt;
+  rising = h.rising;
+  count = h.count ∙ sym (ap (λ (f : RunInfo). f.entries) info);
+  pages = subst (λ (f : RunInfo). (i : ℕ) → i < f.pages → is_some (page_of_run image f.number f.blocks i) ≡ true) (sym info) h.pages;
+  filled = subst (λ (f : RunInfo). (i : ℕ) → i < f.pages → 0 < length (page_entries image f.number f.blocks i)) (sym info) h.filled;
+  firsts = subst (λ (f : RunInfo). (i : ℕ) → i < f.pages → get_or new.firsts i [] ≡ first_key (page_entries image f.number f.blocks i)) (sym info) (λ i lt. ap (λ (ks : List (List ℕ)). get_or ks i []) firsts ∙ h.firsts i lt);
+  later = subst (λ (f : RunInfo). (i : ℕ) → f.pages ≤ i → i < 32 * new.begun → image (run_page f.blocks i) ≡ Erased) (sym info) (λ i le lt. h.later i le (omega (arith, lt, begun)));
+  full = subst (λ (f : RunInfo). AreFullPages (page_entries image f.number f.blocks) f.pages) (sym info) h.full;
+  full_last = subst (λ (f : RunInfo). (i : ℕ) → i + 1 ≡ f.pages → IsFullFor (page_entries image f.number f.blocks i) (h.filling ++ [])) (sym info) full_last;
+  full_waiting = λ _. tt;
+}
+  where
+    last_is : h.waiting ++ h.filling ≡ h.filling ++ []
+    last_is = ap (λ (ws : List Entry). ws ++ h.filling) (nothing_waits old.waits old.waiting h.waiting h.waits w) ∙ sym (append-nil h.filling)
+
+    fed_is : fed ≡ joined (page_entries image new.info.number new.info.blocks) new.info.pages ++ (h.filling ++ [])
+    fed_is = h.parts ∙ ap (λ (xs : List Entry). joined (page_entries image old.info.number old.info.blocks) old.info.pages ++ xs) last_is ∙ ap (λ (f : RunInfo). joined (page_entries image f.number f.blocks) f.pages ++ (h.filling ++ [])) (sym info)
+
+    bytes_are : length old.filling.bytes ≡ length (entries_bytes h.filling)
+    bytes_are = ap (λ (p : Packed). length p.bytes) h.fills
+
+    full_last : (i : ℕ) → i + 1 ≡ old.info.pages → IsFullFor (page_entries image old.info.number old.info.blocks i) (h.filling ++ [])
+    full_last i e = subst (λ (xs : List Entry). IsFullFor (page_entries image old.info.number old.info.blocks i) xs) last_is (h.full_last i e)

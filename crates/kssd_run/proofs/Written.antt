@@ -12,7 +12,7 @@ use Rattle.kssd_model.specs.RunPages.{run_page, run_page_in, page_of_run, page_e
 use Rattle.kssd_run.specs.declared.writer.RunWriter.{RunWriter}
 use Rattle.kssd_run.specs.declared.reader.Run.{Run}
 use Rattle.kssd_run.specs.Run.{StandsRun}
-use Rattle.kssd_run.specs.Writing.{Writes, IsWritten, fills_page}
+use Rattle.kssd_run.specs.Writing.{Writes, IsWritten, IsFullFor, AreFullPages, fills_page}
 use Rattle.kssd_run.proofs.Taking.{nothing_waits}
 
 pub joined_same : (f g : ℕ → List Entry) (n : ℕ) → ((i : ℕ) → i < n → f i ≡ g i) → joined f n ≡ joined g n
@@ -31,6 +31,7 @@ is_written writer run n w f n_is info firsts = record {
   housed = ap (λ (r : RunInfo). length r.blocks) info ∙ length-take-le n writer.info.blocks housed ∙ n_is ∙ ap (λ (p : ℕ). (p + 31) / 32) (sym pages_are);
   blocks = ap (λ (r : RunInfo). r.blocks) info ∙ ap (λ (k : ℕ). take k writer.info.blocks) (n_is ∙ ap (λ (p : ℕ). (p + 31) / 32) (sym pages_are));
   entries = λ image fed h. whole image ∙ sym (fed_is image fed h);
+  full = λ image fed h i lt. subst (λ (es : List Entry). IsFullFor (page_entries image run.info.number run.info.blocks i) es) (sym (same_entries image (i + 1) (omega (arith, lt, pages_are)))) (subst (λ (es : List Entry). IsFullFor es (page_entries image writer.info.number writer.info.blocks (i + 1))) (sym (same_entries image i (omega (arith, lt, pages_are)))) (h.full i (omega (arith, lt, pages_are))));
   stands = λ device image fed h near. record {
     run_in = record {
       pages = λ i lt. ap is_some (ap (λ (r : RunInfo). page_of_run image r.number r.blocks i) info ∙ same_page image i (omega (arith, pages_are))) ∙ h.pages i (omega (arith, pages_are));

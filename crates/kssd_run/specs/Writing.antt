@@ -1,10 +1,10 @@
 -- A run that is written, and what is fed to it.
-use Rattle.std.specs.Prelude.{◌≡◌, ◌≢◌, ◌<◌, ◌≤◌, ◌+◌, ◌*◌, ◌/◌, ℕ, zero, suc, Bool, true, false, not, List, [], ◌++◌, length, get_or, take, is_some, nat_lt}
+use Rattle.std.specs.Prelude.{◌≡◌, ◌≢◌, ◌<◌, ◌≤◌, ◌+◌, ◌*◌, ◌/◌, ℕ, zero, suc, Bool, true, false, not, List, [], ◌∷◌, ◌++◌, length, get_or, take, is_some, nat_lt}
 use Rattle.std.specs.List.{AllByRecursion}
 use Rattle.kv_nand.specs.Flash.{Image, Erased}
 use Rattle.kssd_entry.specs.declared.entry.Entry.{Entry}
 use Rattle.kssd_entry.specs.Packing.{Packed, packed}
-use Rattle.kssd_entry.specs.Spelling.{entries_bytes, FitsEntry}
+use Rattle.kssd_entry.specs.Spelling.{entry_bytes, entries_bytes, FitsEntry}
 use Rattle.kssd_model.specs.declared.runs.RunInfo.{RunInfo}
 use Rattle.kssd_model.specs.Rising.{is_rising}
 use Rattle.kssd_model.specs.RunPages.{run_page, page_of_run, page_entries, joined, first_key, run_entries}
@@ -45,7 +45,16 @@ abbrev pub AreWaiting : Bool → Packed → List Entry → Type 0
 AreWaiting true packer entries = (packer ≡ packed entries) × (0 < length entries) × (length (entries_bytes entries) ≤ 4096) × AllByRecursion FitsEntry entries
 AreWaiting false packer entries = entries ≡ []
 
--- the entries fed are those of the pages programmed, which stand in the image, of the page that waits and of the page that is filled; in the blocks begun all later pages are Erased
+-- behind the entries of a page there is no room for the first of these
+abbrev pub IsFullFor : List Entry → List Entry → Type 0
+IsFullFor page [] = Unit {0}
+IsFullFor page (e ∷ es) = 4096 < length (entries_bytes page) + length (entry_bytes e)
+
+-- of so many pages each but the last was closed since the next entry didn't fit
+abbrev pub AreFullPages : (ℕ → List Entry) → ℕ → Type 0
+AreFullPages page n = (i : ℕ) → i + 1 < n → IsFullFor (page i) (page (i + 1))
+
+-- the entries fed are those of the pages programmed, which stand in the image, of the page that waits and of the page that is filled; in the blocks begun all later pages are Erased. A page is closed where the next entry doesn't fit
 pub record Writes (writer : RunWriter) (image : Image) (fed : List Entry) : Type 0 where
   pub waiting : List Entry
   pub filling : List Entry
@@ -59,6 +68,9 @@ pub record Writes (writer : RunWriter) (image : Image) (fed : List Entry) : Type
   pub filled : (i : ℕ) → i < writer.info.pages → 0 < length (page_entries image writer.info.number writer.info.blocks i)
   pub firsts : (i : ℕ) → i < writer.info.pages → get_or writer.firsts i [] ≡ first_key (page_entries image writer.info.number writer.info.blocks i)
   pub later : (i : ℕ) → writer.info.pages ≤ i → i < 32 * writer.begun → image (run_page writer.info.blocks i) ≡ Erased
+  pub full : AreFullPages (page_entries image writer.info.number writer.info.blocks) writer.info.pages
+  pub full_last : (i : ℕ) → i + 1 ≡ writer.info.pages → IsFullFor (page_entries image writer.info.number writer.info.blocks i) (waiting ++ filling)
+  pub full_waiting : writer.waits ≡ true → IsFullFor waiting filling
 
 -- something was fed whose pages stand in the image as programmed, with all later pages of the blocks begun Erased
 abbrev pub CanStep : RunWriter → Image → Type 0
@@ -95,7 +107,7 @@ pub record Steps (old : RunWriter) (before : Image) (done : Bool) (new : RunWrit
   pub blocks : run_blocks new ≡ run_blocks old
   pub writes : (fed : List Entry) → Writes old before fed → Writes new after fed
 
--- the run of what was fed: it has at most one page for 9 entries, and just the blocks for its pages
+-- the run of what was fed: each page but the last is full, so that there is at most one page for 9 entries, and it has just the blocks for its pages
 pub record IsWritten (writer : RunWriter) (run : Run) : Type 0 where
   pub level : (run_info run).level ≡ writer.info.level
   pub number : (run_info run).number ≡ writer.info.number
@@ -104,4 +116,5 @@ pub record IsWritten (writer : RunWriter) (run : Run) : Type 0 where
   pub housed : length (run_info run).blocks ≡ ((run_info run).pages + 31) / 32
   pub blocks : (run_info run).blocks ≡ take (((run_info run).pages + 31) / 32) (run_blocks writer)
   pub entries : (image : Image) (fed : List Entry) → Writes writer image fed → run_entries image (run_info run) ≡ fed
+  pub full : (image : Image) (fed : List Entry) → Writes writer image fed → AreFullPages (page_entries image (run_info run).number (run_info run).blocks) (run_info run).pages
   pub stands : (device : ℕ) (image : Image) (fed : List Entry) → Writes writer image fed → ((i : ℕ) → i < pages_written writer → run_page (run_blocks writer) i < 32 * device) → StandsRun run device image

@@ -97,11 +97,13 @@ impl RunWriter {
         ensures same { (image : Image) (fed : List fed_entry.Entry) → Writes self.old image fed → Writes self.new image fed }
         ensures place { KeepsPlace self.old self.new }
     {
-        if !self.closed && self.info.entries > 0 {
-            mem::swap(&mut self.waiting, &mut self.filling);
-            self.filling.clear();
-            self.waits = true;
+        if self.closed || self.info.entries == 0 {
+            self.closed = true;
+            return;
         }
+        mem::swap(&mut self.waiting, &mut self.filling);
+        self.filling.clear();
+        self.waits = true;
         self.closed = true;
     }
 
