@@ -1,5 +1,6 @@
 // Reading the log.
-ghost use Rattle.std.specs.Prelude.{◌≡◌, ◌≤◌, ◌<◌, ◌+◌, ◌-◌, ◌*◌, ◌^◌, ◌∷◌, ◌++◌, [], IfOk, OnOk, OnErr, IfErr};
+ghost use Rattle.std.specs.Prelude.{◌≡◌, ◌≤◌, ◌<◌, ◌+◌, ◌-◌, ◌*◌, ◌^◌, ◌∷◌, ◌++◌, [], false, IfOk, OnOk, OnErr, IfErr, IsErrOf};
+ghost use Rattle.kv_nand.specs.Calls.{MayFail};
 ghost use Rattle.kv_nand.specs.Flash.{Whole};
 ghost use Rattle.kv_nand.specs.Working.{Works, Stops};
 ghost use Rattle.kssd_model.specs.Groups.{seen, next_block, is_numbered, key_set};
@@ -9,7 +10,7 @@ use crate::turn::block_after;
 use crate::{Groups, Scan, ScanFault};
 use kssd_entry::{Entries, PageEntries, PageFault, page_head, read_page};
 use kv_base::{Key, Memory, PageData};
-use kv_nand::{FlashFault, Nand, PageKind};
+use kv_nand::{FlashFault, Nand, OpKind, PageKind};
 use std::alloc::Global;
 use std::collections::BTreeSet;
 
@@ -73,6 +74,8 @@ fn read_at<N: Nand>(
     ensures same { (N.flash nand.new).image ≡ (N.flash nand.old).image }
     ensures works { OnOk result (Works (N.flash nand.old) (N.flash nand.new) 0 1) }
     ensures stops { IfErr result (λ fault. Stops (N.flash nand.old) fault (N.flash nand.new) 0 1) }
+    ensures off { IsErrOf result FlashFault.Off → (N.flash nand.old).powered ≡ false }
+    ensures failed { IsErrOf result FlashFault.Failed → MayFail (N.flash nand.old).fails OpKind.Read }
 {
     match nand.read(page, buffer)? {
         PageKind::Whole => look_at(alloc, buffer, page, number),
@@ -120,6 +123,8 @@ pub fn scan<N: Nand>(alloc: Global, nand: &mut N, block: u16, seq: u64) -> Resul
     ensures same { (N.flash nand.new).image ≡ (N.flash nand.old).image }
     ensures works { IfOk result (λ s. Works (N.flash nand.old) (N.flash nand.new) 0 (s.next_seq - seq + 1)) }
     ensures bound { OnOk result (Works (N.flash nand.old) (N.flash nand.new) 0 513) }
+    ensures off { IsErrOf result ScanFault.Off → (N.flash nand.old).powered ≡ false }
+    ensures failed { IsErrOf result ScanFault.Failed → MayFail (N.flash nand.old).fails OpKind.Read }
 {
     let mut buffer = PageData::new(alloc)?;
     let mut groups = Groups::new(alloc);
