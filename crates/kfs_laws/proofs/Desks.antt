@@ -1,14 +1,11 @@
 -- What each call keeps of the open files.
-use Rattle.std.proofs.Common.{◌≡◌, ℕ, zero, suc, ◌+◌, ◌<◌, ◌==◌, ◌&&◌, ◌||◌, inl, inr, Bool, true, false, not, cond, T, refl, sym, ap, ◌∙◌, arith, List, [], ◌∷◌, Option, Some, None, is_some, Result, Ok, Err}
-use Rattle.std.specs.Ordering.{nat_cmp, is_eq, is_lt}
-use Rattle.std.specs.declared.cmp.Ordering.{Ordering}
-use Rattle.std.specs.declared.cmp.Ordering.TheVariants.{Less, Equal, Greater}
+use Rattle.std.proofs.Common.{◌≡◌, ℕ, zero, suc, ◌+◌, ◌<◌, ◌==◌, inl, inr, Bool, true, false, not, cond, refl, sym, ap, ◌∙◌, arith, List, Option, Some, None, is_some}
+use Rattle.std.specs.Ordering.{nat_cmp}
 use Rattle.std.specs.Cmp.{nat_cmp_total}
 use Rattle.std.specs.List.{filter, list_any}
 use Rattle.std.specs.Option.{option_map, option_and_then}
-use Rattle.std.specs.FinMap.{find, put, is_sorted, nat_cmp-IsAntisymmetric}
-use Rattle.std.specs.FinMap.Entries.{below_all, is_sorted-put, is_sorted-where_key, find-where_key}
-use Rattle.std.proofs.lemmas.Bool.Decides.{nat_tests}
+use Rattle.std.specs.FinMap.{find, put, nat_cmp-IsAntisymmetric}
+use Rattle.std.specs.FinMap.Entries.{is_sorted-put, is_sorted-where_key, find-where_key}
 use Rattle.std.proofs.lemmas.Option.{same_Some}
 use Rattle.kfs_model.specs.declared.Description.{Description}
 use Rattle.kfs_model.specs.Desk.{Desk, empty_desk, opened, free_from, lowest_free, with_description}
@@ -17,11 +14,10 @@ use Rattle.kfs_model.specs.Step
 use Rattle.kfs_model.specs.Life.{IsFree}
 use Rattle.kfs_path.specs.declared.call.Call.{Call}
 use Rattle.kfs_path.specs.declared.call.Call.TheVariants as calls
-use Rattle.kfs_path.specs.declared.call.Errno.{Errno}
 use Rattle.kfs_laws.proofs.Outcomes
 use Rattle.kfs_laws.specs.Worlds.{IsDesk}
 use Rattle.std.specs.Prelude.{IsNone}
-use Rattle.kfs_laws.proofs.Lookups.{none_some, number_put, number_other, decide_number, number_apart, number_tied, some_found}
+use Rattle.kfs_laws.proofs.Lookups.{none_some, number_put, number_other, decide_number, some_found, number_found, passed}
 
 -- what a descriptor has open
 pub opened_is : (desk : Desk) (fd : ℕ) (it : ℕ × Description) → opened desk fd ≡ Some it → find nat_cmp it.0 desk.descriptions ≡ Some it.1
@@ -118,36 +114,6 @@ module _ (desk : Desk) (is : IsDesk desk) where
     sorted_descriptions = is_sorted-put nat_cmp nat_cmp_total d it desk.descriptions is.sorted_descriptions;
   }
 
-lower : (y : ℕ) (es : List (ℕ × ℕ)) → T (below_all nat_cmp y es) → find nat_cmp y es ≡ None
-lower y [] h = refl
-lower y (e ∷ es) h = by (nat_cmp y e.0) (lower y es) h
-  where
-    by : (r : Ordering) → (T (below_all nat_cmp y es) → find nat_cmp y es ≡ None) → T (is_lt r && below_all nat_cmp y es) → cond (is_eq r) (Some e.1) (find nat_cmp y es) ≡ None
-    by Less rest h = rest h
-    by Equal rest h = absurd h
-    by Greater rest h = absurd h
-
-sorted_rest : (b c : Bool) → T (b && c) → T b × T c
-sorted_rest true c h = (tt, h)
-sorted_rest false c h = absurd h
-
--- where some entry has the number, a look-up finds it
-any_found : (n : ℕ) (es : List (ℕ × ℕ)) → T (is_sorted nat_cmp es) → list_any (λ e. e.1 == n) es ≡ true → (k : ℕ) × (find nat_cmp k es ≡ Some n)
-any_found n [] sorted e = absurd (cc)
-any_found n (x ∷ es) sorted e =
-    let parts = sorted_rest (below_all nat_cmp x.0 es) (is_sorted nat_cmp es) sorted in
-    by (x.1 == n) refl (any_found n es parts.1) parts.0 e
-  where
-    by : (b : Bool) → (x.1 == n) ≡ b → (list_any (λ e. e.1 == n) es ≡ true → (k : ℕ) × (find nat_cmp k es ≡ Some n)) → T (below_all nat_cmp x.0 es) → (b || list_any (λ e. e.1 == n) es) ≡ true → (k : ℕ) × (find nat_cmp k (x ∷ es) ≡ Some n)
-    by true t rest below e = (x.0, ap (λ b. cond b (Some x.1) (find nat_cmp x.0 es)) (number_tied x.0) ∙ ap Some (let s : x.1 ≡ n = grind (arith, nat_tests) in s))
-    by false t rest below e =
-        let h = rest e in
-        (h.0, ap (λ b. cond b (Some x.1) (find nat_cmp h.0 es)) (number_apart h.0 x.0 (λ same. none_some _ n (ap (λ k. find nat_cmp k es) same ∙ lower x.0 es below) h.1)) ∙ h.1)
-
-passed : {A : Type 0} (b : Bool) (o : Option A) (x : A) → cond b o None ≡ Some x → (b ≡ true) × (o ≡ Some x)
-passed true o x e = (refl, e)
-passed false o x e = absurd (cc)
-
 -- a descriptor closes, and with the last one of a description that goes
 module _ (desk : Desk) (is : IsDesk desk) (fd : ℕ) where
   abbrev left : List (ℕ × ℕ)
@@ -170,34 +136,35 @@ module _ (desk : Desk) (is : IsDesk desk) (fd : ℕ) where
 
   pub closing_is : IsDesk (record { descriptors = left; descriptions = filter (λ e. has e.0) desk.descriptions })
   closing_is = record {
-    held = λ d it e. any_found d left (is_sorted-where_key nat_cmp (λ k. not (k == fd)) desk.descriptors is.sorted_descriptors) (passed (has d) (find nat_cmp d desk.descriptions) it (sym (find_has d) ∙ e)).0;
+    held = λ d it e. number_found nat_cmp nat_cmp_total nat_cmp-IsAntisymmetric d left (is_sorted-where_key nat_cmp (λ k. not (k == fd)) desk.descriptors is.sorted_descriptors) (passed (has d) (find nat_cmp d desk.descriptions) it (sym (find_has d) ∙ e)).0;
     there = λ g d e. let h = is.there g d (open_before g d e) in (h.0, find_has d ∙ ap (λ b. cond b (find nat_cmp d desk.descriptions) None) (some_found nat_cmp left g d e) ∙ h.1);
     low = λ g d e. is.low g d (open_before g d e);
     sorted_descriptors = is_sorted-where_key nat_cmp (λ k. not (k == fd)) desk.descriptors is.sorted_descriptors;
     sorted_descriptions = is_sorted-where_key nat_cmp has desk.descriptions is.sorted_descriptions;
   }
 
+-- what is free has no description
+pub free_number : (w : Step.World) (d : ℕ) → IsFree w d → find nat_cmp d w.desk.descriptions ≡ None
+free_number w d free = by (find nat_cmp d w.desk.descriptions) free
+  where
+    by : (o : Option Description) → IsNone o → o ≡ None
+    by None h = refl
+    by (Some x) h = absurd (let bad : true ≡ false = h in cc)
+
 -- the same over all calls
 module _ (k : Limits) (d : ℕ) (w : Step.World) (free : IsFree w d) (is : IsDesk w.desk) where
   abbrev P : Step.After → Type 0
   P after = IsDesk after.world.desk
-
-  is_none : {A : Type 0} (o : Option A) → IsNone o → o ≡ None
-  is_none None h = refl
-  is_none (Some x) h = absurd (let bad : true ≡ false = h in cc)
-
-  free_number : find nat_cmp d w.desk.descriptions ≡ None
-  free_number = is_none (find nat_cmp d w.desk.descriptions) free
 
   moved : (fd : ℕ) (was : ℕ × Description) (it : Description) → opened w.desk fd ≡ Some was → IsDesk (with_description w.desk was.0 it)
   moved fd was it e = moving_is w.desk is was.0 was.1 it (opened_is w.desk fd was e)
 
   pub desks : (call : Call) → Outcomes.Each P (Step.effect k d w call)
   desks (calls.Open path flags) = Outcomes.open_each P w k d path flags (record {
-    new = λ place fd spot l. opening_is w.desk is fd d _ l free_number;
-    dir = λ fd n may l. opening_is w.desk is fd d _ l free_number;
-    file = λ place fd n bytes e l. opening_is w.desk is fd d _ l free_number;
-    cut = λ place fd n bytes e l. opening_is w.desk is fd d _ l free_number;
+    new = λ place fd spot l. opening_is w.desk is fd d _ l (free_number w d free);
+    dir = λ place fd n e may l. opening_is w.desk is fd d _ l (free_number w d free);
+    file = λ place fd n bytes e l. opening_is w.desk is fd d _ l (free_number w d free);
+    cut = λ place fd n bytes e l. opening_is w.desk is fd d _ l (free_number w d free);
   })
   desks (calls.Close fd) = Outcomes.close_each P w fd (λ it e. closing_is w.desk is fd)
   desks (calls.Dup fd) = Outcomes.dup_each P w fd (λ it new e l. sharing_is w.desk is new it.0 it.1 l (opened_is w.desk fd it e))
@@ -220,7 +187,3 @@ module _ (k : Limits) (d : ℕ) (w : Step.World) (free : IsFree w d) (is : IsDes
   desks calls.Room = is
   desks calls.Tree = is
   desks (calls.Work operations) = is
-
-  pub settled_desk : (r : Result Step.After Errno) → Outcomes.Each P r → IsDesk (Step.settled w r).world.desk
-  settled_desk (Ok after) h = h
-  settled_desk (Err e) h = is

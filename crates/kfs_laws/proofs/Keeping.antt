@@ -20,18 +20,19 @@ filter_again p (x ∷ xs) =
       | false ↦ λ e. rest
     ] refl
 
+-- what is found where only the nodes stay whose numbers pass
+pub node_passes : (t : Tree) (f : ℕ → Bool) (k : ℕ) → node_of (record { names = t.names; nodes = filter (λ e. f e.0) t.nodes; next = t.next }) k ≡ cond (f k) (node_of t k) None
+node_passes t f k = find-where_key nat_cmp f k (λ x e. ap f (sym (nat_cmp-IsAntisymmetric k x e))) t.nodes
+
 module _ (t : Tree) (tree : IsTree t) (f : ℕ → Bool) (stays : (place : Place) (n : ℕ) → number_at t place ≡ Some n → f n ≡ true) where
   abbrev now : Tree
   now = record { names = t.names; nodes = filter (λ e. f e.0) t.nodes; next = t.next }
 
-  node_is : (k : ℕ) → node_of now k ≡ cond (f k) (node_of t k) None
-  node_is k = find-where_key nat_cmp f k (λ x e. ap f (sym (nat_cmp-IsAntisymmetric k x e))) t.nodes
-
   node_old : (k : ℕ) → f k ≡ true → node_of now k ≡ node_of t k
-  node_old k is = node_is k ∙ ap (λ b. cond b (node_of t k) None) is
+  node_old k is = node_passes t f k ∙ ap (λ b. cond b (node_of t k) None) is
 
   node_before : (k : ℕ) (x : Node) → node_of now k ≡ Some x → node_of t k ≡ Some x
-  node_before k x e = by (f k) (sym (node_is k) ∙ e)
+  node_before k x e = by (f k) (sym (node_passes t f k) ∙ e)
     where
       by : (b : Bool) → cond b (node_of t k) None ≡ Some x → node_of t k ≡ Some x
       by true e = e
@@ -61,7 +62,7 @@ module _ (t : Tree) (tree : IsTree t) (f : ℕ → Bool) (stays : (place : Place
     where
       by : (k : ℕ) (b : Bool) → f k ≡ b → (node_of now k ≡ node_of t k) ⊎ (IsNameless t k × (node_of now k ≡ None))
       by k true is = inl (node_old k is)
-      by k false is = inr ((λ place e. let bad : true ≡ false = sym (stays place k e) ∙ is in cc), node_is k ∙ ap (λ b. cond b (node_of t k) None) is)
+      by k false is = inr ((λ place e. let bad : true ≡ false = sym (stays place k e) ∙ is in cc), node_passes t f k ∙ ap (λ b. cond b (node_of t k) None) is)
 
 named_stay : (t : Tree) (place : Place) (n : ℕ) → number_at t place ≡ Some n → is_named t n ≡ true
 named_stay t place n e = some_found place_cmp t.names place n e
@@ -74,6 +75,10 @@ named_kept t tree = is_kept t tree (is_named t) (named_stay t)
 
 pub named_again : (t : Tree) → named (named t) ≡ named t
 named_again t = λ i. record { names = t.names; nodes = filter_again (λ e. is_named t e.0) t.nodes i; next = t.next }
+
+-- what is found among the nodes that stay
+pub swept_node : (w : Step.World) (n : ℕ) → node_of (Step.swept w).tree n ≡ cond (is_named w.tree n || is_open w.desk n) (node_of w.tree n) None
+swept_node w n = node_passes w.tree (λ m. is_named w.tree m || is_open w.desk m) n
 
 swept_stay : (w : Step.World) (place : Place) (n : ℕ) → number_at w.tree place ≡ Some n → (is_named w.tree n || is_open w.desk n) ≡ true
 swept_stay w place n e = or_left (is_named w.tree n) (is_open w.desk n) (named_stay w.tree place n e)

@@ -1,4 +1,5 @@
 pub mod Charging
+pub mod Contents
 pub mod Desks
 pub mod Fitting
 pub mod Keeping

@@ -1,15 +1,17 @@
--- What is found after one entry is put, at the orders of places and of numbers.
-use Rattle.std.proofs.Common.{◌≡◌, ◌≢◌, ℕ, ◌==◌, ◌||◌, [], ◌∷◌, arith, ◌⊎◌, inl, inr, Bool, true, false, cond, T, refl, sym, ◌∙◌, ap, List, length, ◌+◌, is_some, Option, Some, None}
+-- What is found, also after one entry is put, at the orders of places and of numbers.
+use Rattle.std.proofs.Common.{◌≡◌, ◌≢◌, ℕ, ◌==◌, ◌&&◌, ◌||◌, [], ◌∷◌, arith, ◌⊎◌, inl, inr, Bool, true, false, cond, T, refl, sym, ◌∙◌, ap, List, length, ◌+◌, is_some, Option, Some, None}
 use Rattle.std.specs.List.{list_any}
+pub use Rattle.std.proofs.lemmas.Bool.{or_left}
+use Rattle.std.proofs.lemmas.Bool.{or_right}
 use Rattle.std.proofs.lemmas.Bool.Decides.{nat_tests}
 use Rattle.std.proofs.lemmas.Option.{same_Some}
-use Rattle.std.specs.Ordering.{nat_cmp, eq_by_cmp, is_eq}
+use Rattle.std.specs.Ordering.{nat_cmp, eq_by_cmp, is_eq, is_lt}
 use Rattle.std.specs.declared.cmp.Ordering.{Ordering}
 use Rattle.std.specs.declared.cmp.Ordering.TheVariants.{Less, Equal, Greater}
 use Rattle.std.specs.Cmp.{IsTotalOrder, nat_cmp_total, tied_itself}
 use Rattle.std.specs.Cmp.Lexicographic.{nat_list_cmp_total, lists_total}
 use Rattle.std.specs.FinMap.{IsAntisymmetric, nat_cmp-IsAntisymmetric, slice_cmp-IsAntisymmetric, find, put, is_sorted, insert, entries, from_sorted, get-from_sorted, entries-insert, entries-from_sorted, same_map, len, len-insert, len-entries}
-use Rattle.std.specs.FinMap.Entries.{find-put, is_sorted-put}
+use Rattle.std.specs.FinMap.Entries.{below_all, find-put, is_sorted-put}
 use Rattle.kfs_model.specs.Tree.{Place, place_cmp}
 
 pub none_some : {A : Type 0} (o : Option A) (x : A) → o ≡ None → o ≢ Some x
@@ -101,18 +103,58 @@ number_apart q k d = apart_test nat_cmp_total nat_cmp-IsAntisymmetric q k d
 pub number_tied : (q : ℕ) → eq_by_cmp nat_cmp q q ≡ true
 number_tied q = tie_test nat_cmp_total nat_cmp-IsAntisymmetric q
 
-or_right : (a b : Bool) → b ≡ true → (a || b) ≡ true
-or_right true b e = refl
-or_right false b e = e
+-- what passes a test before it is told
+pub passed : {A : Type 0} (b : Bool) (o : Option A) (x : A) → cond b o None ≡ Some x → (b ≡ true) × (o ≡ Some x)
+passed true o x e = (refl, e)
+passed false o x e = absurd (cc)
 
-pub or_left : (a b : Bool) → a ≡ true → (a || b) ≡ true
-or_left a b e = ap (λ x. x || b) e
+-- what is found, some entry has
+pub some_passes : {K V : Type 0} (R : K → K → Ordering) (test : V → Bool) (es : List (K × V)) (k : K) (v : V) → find R k es ≡ Some v → test v ≡ true → list_any (λ e. test e.1) es ≡ true
+some_passes R test [] k v e t = absurd (cc)
+some_passes R test (x ∷ es) k v e t = by (eq_by_cmp R k x.0) (λ f. some_passes R test es k v f t) e
+  where
+    by : (b : Bool) → (find R k es ≡ Some v → list_any (λ e. test e.1) es ≡ true) → cond b (Some x.1) (find R k es) ≡ Some v → (test x.1 || list_any (λ e. test e.1) es) ≡ true
+    by true rest e = or_left (test x.1) (list_any (λ e. test e.1) es) (ap test (same_Some x.1 v e) ∙ t)
+    by false rest e = or_right (test x.1) (list_any (λ e. test e.1) es) (rest e)
 
 -- a number that is found is the number of some entry
 pub some_found : {K : Type 0} (R : K → K → Ordering) (es : List (K × ℕ)) (k : K) (n : ℕ) → find R k es ≡ Some n → list_any (λ e. e.1 == n) es ≡ true
-some_found R [] k n e = absurd (cc)
-some_found R (x ∷ es) k n e = by (eq_by_cmp R k x.0) (some_found R es k n) e
+some_found R es k n e = some_passes R (λ m. m == n) es k n e (grind (arith, nat_tests))
+
+below_none : {K V : Type 0} (R : K → K → Ordering) (y : K) (es : List (K × V)) → T (below_all R y es) → find R y es ≡ None
+below_none R y [] h = refl
+below_none R y (e ∷ es) h = by (R y e.0) (below_none R y es) h
   where
-    by : (b : Bool) → (find R k es ≡ Some n → list_any (λ e. e.1 == n) es ≡ true) → cond b (Some x.1) (find R k es) ≡ Some n → ((x.1 == n) || list_any (λ e. e.1 == n) es) ≡ true
-    by true rest e = let h : x.1 ≡ n = same_Some _ _ e in let t : (x.1 == n) ≡ true = grind (arith, nat_tests) in or_left (x.1 == n) (list_any (λ e. e.1 == n) es) t
-    by false rest e = or_right (x.1 == n) (list_any (λ e. e.1 == n) es) (rest e)
+    by : (r : Ordering) → (T (below_all R y es) → find R y es ≡ None) → T (is_lt r && below_all R y es) → cond (is_eq r) (Some e.1) (find R y es) ≡ None
+    by Less rest h = rest h
+    by Equal rest h = absurd h
+    by Greater rest h = absurd h
+
+both : (b c : Bool) → T (b && c) → T b × T c
+both true c h = (tt, h)
+both false c h = absurd h
+
+module _ {K V : Type 0} (R : K → K → Ordering) (o : IsTotalOrder R) (same : IsAntisymmetric R) where
+  -- what some of sorted entries has, a look-up finds
+  pub any_found : (test : V → Bool) (es : List (K × V)) → T (is_sorted R es) → list_any (λ e. test e.1) es ≡ true → (k : K) × (v : V) × (find R k es ≡ Some v) × (test v ≡ true)
+  any_found test [] sorted e = absurd (cc)
+  any_found test (x ∷ es) sorted e =
+      let parts = both (below_all R x.0 es) (is_sorted R es) sorted in
+      by (test x.1) refl (any_found test es parts.1) parts.0 e
+    where
+      later : (k : K) (v : V) (r : Ordering) → R k x.0 ≡ r → T (below_all R x.0 es) → find R k es ≡ Some v → cond (is_eq r) (Some x.1) (find R k es) ≡ Some v
+      later k v Less is below f = f
+      later k v Equal is below f = absurd (none_some (find R k es) v (ap (λ j. find R j es) (same k x.0 is) ∙ below_none R x.0 es below) f)
+      later k v Greater is below f = f
+
+      by : (b : Bool) → test x.1 ≡ b → (list_any (λ e. test e.1) es ≡ true → (k : K) × (v : V) × (find R k es ≡ Some v) × (test v ≡ true)) → T (below_all R x.0 es) → (b || list_any (λ e. test e.1) es) ≡ true
+          → (k : K) × (v : V) × (find R k (x ∷ es) ≡ Some v) × (test v ≡ true)
+      by true t rest below e = (x.0, x.1, ap (λ r. cond (is_eq r) (Some x.1) (find R x.0 es)) (tied_itself o x.0), t)
+      by false t rest below e = let h = rest e in (h.0, h.1, later h.0 h.1 (R h.0 x.0) refl below h.2, h.3)
+
+pub same_number : (m n : ℕ) → (m == n) ≡ true → m ≡ n
+same_number m n e = grind (arith, nat_tests)
+
+-- the same of a number
+pub number_found : {K : Type 0} (R : K → K → Ordering) → IsTotalOrder R → IsAntisymmetric R → (n : ℕ) (es : List (K × ℕ)) → T (is_sorted R es) → list_any (λ e. e.1 == n) es ≡ true → (k : K) × (find R k es ≡ Some n)
+number_found R o same n es sorted e = let h = any_found R o same (λ m. m == n) es sorted e in (h.0, h.2 ∙ ap Some (same_number h.1 n h.3))

@@ -107,7 +107,7 @@ module _ (t : Tree) (tree : IsTree t) (n : ℕ) (was bytes : List ℕ) (file : n
   dir_kept k dir = node_other k (λ e. let bad : Some Dir ≡ Some (File was) = sym dir ∙ ap (node_of t) e ∙ file in absurd (cc)) ∙ dir
 
   -- a node was there before
-  node_before : (k : ℕ) (x : Node) → node_of now k ≡ Some x → (y : Node) × (node_of t k ≡ Some y)
+  pub node_before : (k : ℕ) (x : Node) → node_of now k ≡ Some x → (y : Node) × (node_of t k ≡ Some y)
   node_before k x e = elim (decide_number k n) [
     | inl is ↦ (File was, ap (node_of t) is ∙ file)
     | inr other ↦ (x, sym (node_other k other) ∙ e)

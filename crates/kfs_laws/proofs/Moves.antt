@@ -1,5 +1,5 @@
 -- What a rename leaves at the old place.
-use Rattle.std.proofs.Common.{◌≡◌, ◌≢◌, ℕ, suc, ◌<◌, ◌&&◌, Bool, true, false, cond, arith, refl, sym, ap, ◌∙◌, List, [], ◌∷◌, ◌++◌, append_assoc, append-nil, length, map, Option, Some, None, is_some, Ok, inl, inr}
+use Rattle.std.proofs.Common.{◌≡◌, ◌≢◌, ℕ, suc, ◌<◌, ◌&&◌, true, false, cond, arith, refl, sym, ap, ◌∙◌, List, [], ◌∷◌, ◌++◌, append_assoc, append-nil, length, map, Option, Some, None, is_some, Ok, inl, inr}
 use Rattle.std.specs.List.{filter_map, cons_option}
 use Rattle.std.specs.Option.{option_map, option_and_then}
 use Rattle.std.specs.FinMap.{find}
@@ -13,18 +13,14 @@ use Rattle.kfs_model.specs.Tree.{Tree, Place, Name, place_cmp, below, child, onl
 use Rattle.kfs_model.specs.Step
 use Rattle.kfs_model.specs.Change
 use Rattle.kfs_model.proofs.Renaming.{find-all_put, below-append}
-use Rattle.kfs_laws.proofs.Lookups.{none_some, place_apart, decide_place}
-
-cut : {A : Type 0} (b : Bool) (o : Option A) (x : A) → cond b o None ≡ Some x → (b ≡ true) × (o ≡ Some x)
-cut true o x e = (refl, e)
-cut false o x e = absurd (cc)
+use Rattle.kfs_laws.proofs.Lookups.{none_some, passed, place_apart, decide_place}
 
 -- a place that has the front is the front and what follows
 pub below_is : (front p tail : Place) → below front p ≡ Some tail → p ≡ front ++ tail
 below_is [] p tail e = same_Some p tail e
 below_is (name ∷ front) [] tail e = absurd (cc)
 below_is (name ∷ front) (first ∷ p) tail e =
-    let both = cut (bytes_eq name first) (below front p) tail e in
+    let both = passed (bytes_eq name first) (below front p) tail e in
     let same : name ≡ first = (bytes_eq-Decides name first).0 both.0 in
     let rest = below_is front p tail both.1 in
     λ i. sym same i ∷ rest i

@@ -15,7 +15,7 @@ use Rattle.kfs_path.specs.declared.call.Data.{Data}
 use Rattle.kfs_model.specs.declared.Node.{Node}
 use Rattle.kfs_model.specs.declared.Node.TheVariants.{Dir, File}
 use Rattle.kfs_model.specs.Ladder.{◌>>=◌, ◌>>◌}
-use Rattle.kfs_model.specs.Tree.{Limits, Tree, Place, entry_at, walk, below, is_dot, is_dot_dot, with_new, with_node, without_place, renamed, resized, written, fits, greatest_length}
+use Rattle.kfs_model.specs.Tree.{Limits, Tree, Place, entry_at, walk, below, is_dot, is_dot_dot, with_new, with_node, without_place, renamed, resized, written, fits, charge, has_room, greatest_length}
 use Rattle.kfs_model.specs.declared.Description.{Description}
 use Rattle.kfs_model.specs.Desk.{Desk, opened, lowest_free, with_description}
 use Rattle.kfs_model.specs.Step
@@ -66,6 +66,11 @@ module _ {A : Type 0} (P : A → Type 0) where
   each_if true r s h g = h
   each_if false r s h g = g refl
 
+-- what holds of the world before, and of one that a call leaves, holds after the call
+pub settled_is : (P : Step.World → Type 0) (w : Step.World) (r : Result Step.After Errno) → P w → Each (λ after. P after.world) r → P (Step.settled w r).world
+settled_is P w (Ok after) before h = h
+settled_is P w (Err e) before h = before
+
 module _ (P : Step.After → Type 0) (w : Step.World) where
   -- what each call leaves
   abbrev pub At : Tree → Desk → Reply → Type 0
@@ -75,19 +80,20 @@ module _ (P : Step.After → Type 0) (w : Step.World) where
   abbrev pub AtSwept : Tree → Desk → Reply → Type 0
   AtSwept t desk reply = P (record { world = Step.swept (record { tree = t; desk = desk }); reply = reply })
 
-  -- a free place that a path names
-  pub record IsFreeAt (path : List ℕ) (place : Place) : Type 0 where
+  -- a free place that a path names, where two more keys are there
+  pub record IsFreeAt (k : Limits) (path : List ℕ) (place : Place) : Type 0 where
     pub short : is_too_long path ≡ false
     pub walked : walk w.tree (pieces_of path) ≡ Ok place
     pub free : Step.is_there w.tree place ≡ false
+    pub room : nat_lt k.keys (charge w.tree + 2) ≡ false
 
-  free_at : (path : List ℕ) (place : Place) → is_too_long path ≡ false → walk w.tree (pieces_of path) ≡ Ok place → Step.is_there w.tree place ≡ false → IsFreeAt path place
-  free_at path place a b c = record { short = a; walked = b; free = c }
+  free_at : (k : Limits) (path : List ℕ) (place : Place) → is_too_long path ≡ false → walk w.tree (pieces_of path) ≡ Ok place → Step.is_there w.tree place ≡ false → nat_lt k.keys (charge w.tree + 2) ≡ false → IsFreeAt k path place
+  free_at k path place a b c d = record { short = a; walked = b; free = c; room = d }
 
   abbrev pub made : Place → Type 0
   made place = Each P (Step.leaves w (with_new w.tree place Dir) replies.Done)
 
-  pub mkdir_each : (k : Limits) (path : List ℕ) → ((place : Place) → IsFreeAt path place → At (with_new w.tree place Dir) w.desk replies.Done) → Each P (Step.mkdir k w path)
+  pub mkdir_each : (k : Limits) (path : List ℕ) → ((place : Place) → IsFreeAt k path place → At (with_new w.tree place Dir) w.desk replies.Done) → Each P (Step.mkdir k w path)
   mkdir_each k path h = each_inside P (Step.mkdir_at k w.tree path) (λ place. Step.leaves w (with_new w.tree place Dir) replies.Done) (search (each_syntax made, each_bind made, each_unless made, free_at, h) depth 20)
 
   -- an empty directory that a path names, which ends in a name
@@ -171,26 +177,37 @@ module _ (P : Step.After → Type 0) (w : Step.World) where
   pub lseek_each : (fd : ℕ) (whence : Whence) (offset : ℤ) → ((n : ℕ) → Moves fd (replies.Number n)) → Each P (Step.lseek w fd whence offset)
   lseek_each fd whence offset h = search (each_or_else P, each_then P, h) depth 12
 
+  abbrev pub longer : ℕ → ℕ → Tree
+  longer n size = with_node w.tree n (File (resized (Step.content w.tree n) size))
+
+  -- the new length of a file is within the greatest one and the room
+  pub record MayHave (k : Limits) (n size : ℕ) : Type 0 where
+    pub short : nat_lt greatest_length size ≡ false
+    pub room : has_room k (longer n size) ≡ true
+
+  may_have : (k : Limits) (n size : ℕ) → nat_lt greatest_length size ≡ false → has_room k (longer n size) ≡ true → MayHave k n size
+  may_have k n size a b = record { short = a; room = b }
+
   -- the new content of what a path names
-  abbrev pub Lengthens : List ℕ → ℤ → Type 0
-  Lengthens path size =
-      (place : Place) (e : ℕ × Node) → walk w.tree (pieces_of path) ≡ Ok place → entry_at w.tree place ≡ Some e → Step.is_dir w.tree place ≡ false → nat_lt greatest_length (Step.natural size) ≡ false
-      → At (with_node w.tree e.0 (File (resized (Step.content w.tree e.0) (Step.natural size)))) w.desk replies.Done
+  abbrev pub Lengthens : Limits → List ℕ → ℤ → Type 0
+  Lengthens k path size =
+      (place : Place) (e : ℕ × Node) → walk w.tree (pieces_of path) ≡ Ok place → entry_at w.tree place ≡ Some e → Step.is_dir w.tree place ≡ false → MayHave k e.0 (Step.natural size)
+      → At (longer e.0 (Step.natural size)) w.desk replies.Done
 
   abbrev pub left : Tree → Type 0
   left t = Each P (Step.leaves w t replies.Done)
 
-  pub truncate_each : (k : Limits) (path : List ℕ) (size : ℤ) → Lengthens path size → Each P (Step.changes_tree w (Step.truncate k w.tree path size))
-  truncate_each k path size h = each_inside P (Step.truncate k w.tree path size) (λ t. Step.leaves w t replies.Done) (search (each_bind left, each_syntax left, each_or_else left, each_unless left, h) depth 24)
+  pub truncate_each : (k : Limits) (path : List ℕ) (size : ℤ) → Lengthens k path size → Each P (Step.changes_tree w (Step.truncate k w.tree path size))
+  truncate_each k path size h = each_inside P (Step.truncate k w.tree path size) (λ t. Step.leaves w t replies.Done) (search (each_bind left, each_syntax left, each_or_else left, each_unless left, each_where left, may_have, h) depth 24)
 
   -- the new content of what a descriptor has
-  abbrev pub LengthensOpen : ℕ → ℤ → Type 0
-  LengthensOpen fd size =
-      (it : ℕ × Description) → opened w.desk fd ≡ Some it → it.1.write ≡ true → nat_lt greatest_length (Step.natural size) ≡ false
-      → At (with_node w.tree it.1.node (File (resized (Step.content w.tree it.1.node) (Step.natural size)))) w.desk replies.Done
+  abbrev pub LengthensOpen : Limits → ℕ → ℤ → Type 0
+  LengthensOpen k fd size =
+      (it : ℕ × Description) → opened w.desk fd ≡ Some it → it.1.write ≡ true → MayHave k it.1.node (Step.natural size)
+      → At (longer it.1.node (Step.natural size)) w.desk replies.Done
 
-  pub ftruncate_each : (k : Limits) (fd : ℕ) (size : ℤ) → LengthensOpen fd size → Each P (Step.changes_tree w (Step.ftruncate k w fd size))
-  ftruncate_each k fd size h = each_inside P (Step.ftruncate k w fd size) (λ t. Step.leaves w t replies.Done) (search (each_or_else left, each_unless left, each_where left, h) depth 24)
+  pub ftruncate_each : (k : Limits) (fd : ℕ) (size : ℤ) → LengthensOpen k fd size → Each P (Step.changes_tree w (Step.ftruncate k w fd size))
+  ftruncate_each k fd size h = each_inside P (Step.ftruncate k w fd size) (λ t. Step.leaves w t replies.Done) (search (each_or_else left, each_unless left, each_where left, may_have, h) depth 24)
 
   -- a desk without a descriptor, and without the descriptions that no other has
   abbrev pub closed : ℕ → Desk
@@ -230,8 +247,8 @@ module _ (P : Step.After → Type 0) (w : Step.World) where
 
   -- a new file, a directory, a file as it is, and one that is cut to no bytes
   pub record Opens (k : Limits) (d : ℕ) (path : List ℕ) (flags : Flags) : Type 0 where
-    pub new : (place : Place) (fd : ℕ) → IsFreeAt path place → lowest_free w.desk ≡ Some fd → P (Step.opens w (with_new w.tree place (File [])) fd d w.tree.next flags)
-    pub dir : (fd n : ℕ) → flags.write ≡ false → lowest_free w.desk ≡ Some fd → P (Step.opens w w.tree fd d n flags)
+    pub new : (place : Place) (fd : ℕ) → IsFreeAt k path place → lowest_free w.desk ≡ Some fd → P (Step.opens w (with_new w.tree place (File [])) fd d w.tree.next flags)
+    pub dir : (place : Place) (fd n : ℕ) → entry_at w.tree place ≡ Some (n, Dir) → flags.write ≡ false → lowest_free w.desk ≡ Some fd → P (Step.opens w w.tree fd d n flags)
     pub file : (place : Place) (fd n : ℕ) (bytes : List ℕ) → entry_at w.tree place ≡ Some (n, File bytes) → lowest_free w.desk ≡ Some fd → P (Step.opens w w.tree fd d n flags)
     pub cut : (place : Place) (fd n : ℕ) (bytes : List ℕ) → entry_at w.tree place ≡ Some (n, File bytes) → lowest_free w.desk ≡ Some fd → P (Step.opens w (with_node w.tree n (File [])) fd d n flags)
 
@@ -248,11 +265,10 @@ module _ (P : Step.After → Type 0) (w : Step.World) where
 
       at : (route : Step.Route) (place : Place) (o : Option (ℕ × Node)) → is_too_long path ≡ false → walk w.tree (pieces_of path) ≡ Ok place → entry_at w.tree place ≡ o → Each P (Step.open_at k d w route place flags o)
       at route place None short walked e =
-          let spot : IsFreeAt path place = record { short = short; walked = walked; free = ap is_some e } in
-          let new = λ (fd : ℕ) (l : lowest_free w.desk ≡ Some fd). h.new place fd spot l in
-          search (each_or_else P, each_then P, new) depth 12
+          let new = λ (fd : ℕ) (l : lowest_free w.desk ≡ Some fd) (room : nat_lt k.keys (charge w.tree + 2) ≡ false). h.new place fd (free_at k path place short walked (ap is_some e) room) l in
+          search (each_or_else P, each_unless P, new) depth 12
       at route place (Some (n, Dir)) short walked e =
-          each_then P _ _ (each_unless P _ _ _ (λ may. each_or_else P _ _ _ (λ fd l. h.dir fd n (no_write flags.write flags.creat may) l)))
+          each_then P _ _ (each_unless P _ _ _ (λ may. each_or_else P _ _ _ (λ fd l. h.dir place fd n e (no_write flags.write flags.creat may) l)))
       at route place (Some (n, File bytes)) short walked e =
           let old = λ (fd : ℕ) (l : lowest_free w.desk ≡ Some fd). by_trunc flags.trunc place fd n bytes e l in
           search (each_or_else P, each_then P, old) depth 12

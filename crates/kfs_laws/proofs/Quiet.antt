@@ -6,8 +6,7 @@ use Rattle.std.specs.Ordering.{nat_cmp}
 use Rattle.std.specs.List.{filter}
 use Rattle.std.specs.Option.{option_map, option_and_then}
 use Rattle.std.specs.FinMap.{put, is_sorted}
-use Rattle.std.proofs.lemmas.List.{length-take-le, length-append, length-replicate, take-append-le, take_all}
-use Rattle.std.proofs.lemmas.Option.{same_Some}
+use Rattle.std.proofs.lemmas.List.{take-append-le, take_all}
 use Rattle.std.proofs.lemmas.Bool.Decides.{nat_tests}
 use Rattle.kfs_path.specs.Pieces.{pieces_of}
 use Rattle.kfs_path.specs.declared.call.Call.{Call}
@@ -16,8 +15,8 @@ use Rattle.kfs_path.specs.declared.call.Reply.TheVariants as replies
 use Rattle.kfs_path.specs.declared.call.Errno.{Errno}
 use Rattle.kfs_path.specs.declared.call.Flags.{Flags}
 use Rattle.kfs_model.specs.declared.Node.{Node}
-use Rattle.kfs_model.specs.declared.Node.TheVariants.{Dir, File}
-use Rattle.kfs_model.specs.Tree.{Limits, Tree, Place, entry_at, number_at, node_of, with_node, resized, padded, walk, renamed, without_place, IsTree}
+use Rattle.kfs_model.specs.declared.Node.TheVariants.{File}
+use Rattle.kfs_model.specs.Tree.{Limits, Tree, Place, entry_at, node_of, with_node, resized, walk, renamed, without_place, IsTree}
 use Rattle.kfs_model.specs.Step
 use Rattle.kfs_model.specs.declared.Description.{Description}
 use Rattle.kfs_model.specs.Change
@@ -25,6 +24,7 @@ use Rattle.kfs_model.specs.Change.{weight, resizing, writing}
 use Rattle.kfs_laws.specs.Worlds.{WritesFiles}
 use Rattle.kfs_laws.specs.Laws.{looks}
 use Rattle.kfs_laws.proofs.Outcomes
+use Rattle.kfs_laws.proofs.Contents.{entry_is, entry_file, content_is, length_resized}
 use Rattle.kfs_laws.proofs.Moves.{renamed_leaves}
 use Rattle.kfs_laws.proofs.Lookups.{number_put, number_put_same}
 use Rattle.kfs_laws.proofs.Desks.{opened_is}
@@ -57,10 +57,6 @@ module _ (k : Limits) (d : ℕ) (w : Step.World) where
   looking (calls.Rmdir path) e = absurd (cc)
   looking (calls.Unlink path) e = absurd (cc)
   looking (calls.Rename old new) e = absurd (cc)
-
-  pub settled_same : (r : Result Step.After Errno) → Outcomes.Each Same r → (Step.settled w r).world.tree ≡ w.tree
-  settled_same (Ok after) h = h
-  settled_same (Err e) h = refl
 
 no_more : {X : Type 0} (p : X → Bool) (xs : List X) → length (filter p xs) ≤ length xs
 no_more p [] = omega arith
@@ -102,20 +98,6 @@ same_length old new e = by (nat_lt new old) (nat_lt old new) refl refl e
     by false true p q e = absurd (cc)
     by false false p q e = grind (arith, nat_tests)
 
-entry_is : (t : Tree) (place : Place) (n : ℕ) (node : Node) → entry_at t place ≡ Some (n, node) → node_of t n ≡ Some node
-entry_is t place n node e = by (number_at t place) e
-  where
-    inner : (m : ℕ) (o : Option Node) → node_of t m ≡ o → option_map {U = ℕ × Node} (λ x. (m, x)) o ≡ Some (n, node) → node_of t n ≡ Some node
-    inner m None is e = absurd (cc)
-    inner m (Some x) is e = let pair = same_Some (m, x) (n, node) e in let same = ap (λ (q : ℕ × Node). q.0) pair in let kind = ap (λ (q : ℕ × Node). q.1) pair in ap (node_of t) (sym same) ∙ is ∙ ap Some kind
-
-    by : (o : Option ℕ) → option_and_then (λ m. option_map {U = ℕ × Node} (λ x. (m, x)) (node_of t m)) o ≡ Some (n, node) → node_of t n ≡ Some node
-    by None e = absurd (cc)
-    by (Some m) e = inner m (node_of t m) refl e
-
-content_is : (t : Tree) (n : ℕ) (b : List ℕ) → node_of t n ≡ Some (File b) → Step.content t n ≡ b
-content_is t n b e = rw e refl
-
 content_now : (t : Tree) (n : ℕ) (b : List ℕ) → Step.content (with_node t n (File b)) n ≡ b
 content_now t n b = content_is (with_node t n (File b)) n b (number_put n (File b) t.nodes)
 
@@ -134,16 +116,8 @@ no_bytes : (b : List ℕ) → length b ≡ 0 → [] ≡ b
 no_bytes [] e = refl
 no_bytes (x ∷ b) e = absurd (let h : suc (length b) ≡ 0 = e in omega arith)
 
--- the length that a resize leaves
-length_resized : (b : List ℕ) (n : ℕ) → length (resized b n) ≡ n
-length_resized b n = length-take-le n (padded b n) (let h = length-append b (replicate (n - length b) 0) in let g = length-replicate {A = ℕ} (n - length b) 0 in omega arith)
-
 resized_same : (b : List ℕ) (n : ℕ) → length b ≡ length (resized b n) → resized b n ≡ b
 resized_same b n e = let h = length_resized b n in take-append-le n b (replicate (n - length b) 0) (omega arith) ∙ take_all n b (omega arith)
-
-file_of : (node : Node) (n : ℕ) → Step.has_dir (Some (n, node)) ≡ false → (b : List ℕ) × (node ≡ File b)
-file_of Dir n e = absurd (cc)
-file_of (File b) n e = (b, refl)
 
 node_at_is : (t : Tree) (path : List ℕ) (place : Place) (e : ℕ × Node) → walk t (pieces_of path) ≡ Ok place → entry_at t place ≡ Some e → Change.node_at t path ≡ Some e.0
 node_at_is t path place e at is = by (walk t (pieces_of path)) at
@@ -174,7 +148,7 @@ module _ (k : Limits) (d : ℕ) (w : Step.World) (tree : IsTree w.tree) (files :
   opening_file : (path : List ℕ) (flags : Flags) → Outcomes.Each (Quiet (calls.Open path flags)) (Step.open_path k d w path flags)
   opening_file path flags = Outcomes.open_each (Quiet (calls.Open path flags)) w k d path flags (record {
     new = λ place fd spot l h. absurd (rises (nat_lt w.tree.next (w.tree.next + 1)) 4 _ (let t : nat_lt w.tree.next (w.tree.next + 1) ≡ true = grind (arith, nat_tests) in t) h);
-    dir = λ fd n may l h. refl;
+    dir = λ place fd n e may l h. refl;
     file = λ place fd n b e l h. refl;
     cut = λ place fd n b e l h. same_content w.tree n b [] tree.sorted_nodes (entry_is w.tree place n (File b) e) (λ l. no_bytes b l)
         (from_node w (cut n fd) (Change.node_open (cut n fd).world.desk fd) n (opens_node w (with_node w.tree n (File [])) fd d n flags) (otherwise (nat_lt w.tree.next w.tree.next) 4 _ h));
@@ -206,10 +180,8 @@ module _ (k : Limits) (d : ℕ) (w : Step.World) (tree : IsTree w.tree) (files :
   quiet (calls.Pwrite fd bytes offset) = Outcomes.pwrite_each (Quiet (calls.Pwrite fd bytes offset)) w k fd bytes offset (λ h. refl) (λ it p is may some h. absurd (written_some (Outcomes.fitting (Quiet (calls.Pwrite fd bytes offset)) w k it.1.node p (Step.bytes_of bytes)) _ some h))
   quiet (calls.Lseek fd whence offset) = Outcomes.lseek_each (Quiet (calls.Lseek fd whence offset)) w fd whence offset (λ n it p is h. refl)
   quiet (calls.Truncate path size) = Outcomes.truncate_each (Quiet (calls.Truncate path size)) w k path size (λ place e at is dir low h.
-      let entry : entry_at w.tree place ≡ Some (e.0, e.1) = is in
-      let file = file_of e.1 e.0 (sym (ap Step.has_dir entry) ∙ dir) in
-      let there : node_of w.tree e.0 ≡ Some (File file.0) = entry_is w.tree place e.0 e.1 entry ∙ ap Some file.1 in
-      lengthened e.0 file.0 (Step.natural size) there (from_node w (longer e.0 (Step.natural size)) (Change.node_at w.tree path) e.0 (node_at_is w.tree path place e at is) h))
+      let file = entry_file w.tree place e is dir in
+      lengthened e.0 file.0 (Step.natural size) file.1 (from_node w (longer e.0 (Step.natural size)) (Change.node_at w.tree path) e.0 (node_at_is w.tree path place e at is) h))
   quiet (calls.Ftruncate fd size) = Outcomes.ftruncate_each (Quiet (calls.Ftruncate fd size)) w k fd size (λ it is write low h.
       let file = files it.0 it.1 (opened_is w.desk fd it is) write in
       lengthened it.1.node file.0 (Step.natural size) file.1 (from_node w (longer it.1.node (Step.natural size)) (Change.node_open w.desk fd) it.1.node (ap (option_map (λ (x : ℕ × Description). x.1.node)) is) h))

@@ -1,5 +1,5 @@
 -- What lies below one place lies below another after a rename: a tree is left.
-use Rattle.std.proofs.Common.{◌≡◌, ℕ, ◌⊎◌, inl, inr, T, cond, true, false, Bool, refl, sym, ◌∙◌, ap, subst, List, [], ◌∷◌, ◌++◌, append_assoc, map, Option, Some, None}
+use Rattle.std.proofs.Common.{◌≡◌, ℕ, ◌⊎◌, inl, inr, T, cond, refl, sym, ◌∙◌, ap, subst, List, [], ◌∷◌, ◌++◌, append_assoc, map, Option, Some, None}
 use Rattle.std.specs.FinMap.{find, is_sorted}
 use Rattle.std.specs.FinMap.Entries.{is_sorted-put}
 use Rattle.std.specs.Str.{bytes_eq}
@@ -9,7 +9,7 @@ use Rattle.std.proofs.lemmas.Option.{same_Some}
 use Rattle.kfs_model.specs.declared.Node.TheVariants.{Dir}
 use Rattle.kfs_model.specs.Tree.{Place, Name, Tree, below, renamed, moved, moved_place, all_put, place_cmp, IsTree, IsName, NoneBelow, number_at, node_of}
 use Rattle.kfs_model.proofs.Renaming.{find-all_put, below-append, find-renamed_other, find-renamed_moved}
-use Rattle.kfs_laws.proofs.Lookups.{places_total, place_apart, place_tied, decide_place, none_some}
+use Rattle.kfs_laws.proofs.Lookups.{places_total, place_apart, place_tied, decide_place, none_some, passed}
 use Rattle.kfs_laws.proofs.Moves.{below_is, no_front, front_there}
 
 -- what no place that is found has
@@ -37,17 +37,13 @@ sorted_put : (es : List (Place × ℕ)) → T (is_sorted place_cmp (all_put es))
 sorted_put [] = tt
 sorted_put (e ∷ es) = is_sorted-put place_cmp places_total e.0 e.1 (all_put es) (sorted_put es)
 
-cut : {A : Type 0} (b : Bool) (o : Option A) (x : A) → cond b o None ≡ Some x → (b ≡ true) × (o ≡ Some x)
-cut true o x e = (refl, e)
-cut false o x e = absurd (cc)
-
 -- a front of a place one longer is that place, or a front of the shorter one
 pub front_of_push : (front q : Place) (x : Name) (tail : Place) → below front (q ++ x ∷ []) ≡ Some tail → (q ++ x ∷ [] ≡ front) ⊎ ((rest : Place) × (below front q ≡ Some rest))
 front_of_push [] q x tail e = inr (q, refl)
-front_of_push (a ∷ []) [] x tail e = let h = cut (bytes_eq a x) (Some []) tail e in let same : a ≡ x = (bytes_eq-Decides a x).0 h.0 in inl (λ i. sym same i ∷ [])
-front_of_push (a ∷ b ∷ front) [] x tail e = let h = cut (bytes_eq a x) None tail e in let bad = h.1 in absurd (cc)
+front_of_push (a ∷ []) [] x tail e = let h = passed (bytes_eq a x) (Some []) tail e in let same : a ≡ x = (bytes_eq-Decides a x).0 h.0 in inl (λ i. sym same i ∷ [])
+front_of_push (a ∷ b ∷ front) [] x tail e = let h = passed (bytes_eq a x) None tail e in let bad = h.1 in absurd (cc)
 front_of_push (a ∷ front) (b ∷ q) x tail e =
-    let h = cut (bytes_eq a b) (below front (q ++ x ∷ [])) tail e in
+    let h = passed (bytes_eq a b) (below front (q ++ x ∷ [])) tail e in
     let same : a ≡ b = (bytes_eq-Decides a b).0 h.0 in
     elim (front_of_push front q x tail h.1) [
       | inl is ↦ inl (λ i. sym same i ∷ is i)

@@ -51,7 +51,7 @@ module _ (k : Limits) (d : ℕ) (w : Step.World) where
   pub sound : (call : Call) → Outcomes.Each P (Step.effect k d w call)
   sound (calls.Open path flags) = Outcomes.open_each P w k d path flags (record {
     new = λ place fd spot l. more _ refl refl;
-    dir = λ fd n may l. same _ refl refl;
+    dir = λ place fd n e may l. same _ refl refl;
     file = λ place fd n bytes e l. same _ refl refl;
     cut = λ place fd n bytes e l. same _ refl refl;
   })

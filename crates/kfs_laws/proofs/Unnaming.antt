@@ -2,6 +2,7 @@
 use Rattle.std.proofs.Common.{◌≡◌, ◌≢◌, ℕ, ◌&&◌, not, cond, true, false, Bool, inl, inr, refl, sym, ◌∙◌, ap, [], ◌∷◌, ◌++◌, Option, Some, None, is_some}
 use Rattle.std.specs.FinMap.Entries.{is_sorted-where_key, find-where_key}
 use Rattle.std.specs.Str.{bytes_eq}
+use Rattle.std.proofs.lemmas.Bool.{and_parts}
 use Rattle.std.proofs.lemmas.Slice.Eq.{bytes_eq-Decides}
 use Rattle.kfs_model.specs.Tree.{Place, Name, Tree, below, without_place, place_cmp, IsTree, number_at}
 use Rattle.kfs_laws.proofs.Lookups.{same_places, decide_place, none_some}
@@ -23,10 +24,6 @@ both_below (x ∷ a) (y ∷ b) e f =
     let rest = both_below a b h.1 k.1 in
     λ i. same i ∷ rest i
 
-both_true : (a b : Bool) → (a && b) ≡ true → (a ≡ true) × (b ≡ true)
-both_true true b e = (refl, e)
-both_true false b e = absurd (cc)
-
 -- where the new places differ
 abbrev pub stays : Place → Place → Bool
 stays gone q = not (is_some (below gone q) && is_some (below q gone))
@@ -39,7 +36,7 @@ stays_other gone q d = by (is_some (below gone q) && is_some (below q gone)) ref
   where
     by : (b : Bool) → (is_some (below gone q) && is_some (below q gone)) ≡ b → not b ≡ true
     by false e = refl
-    by true e = let h = both_true _ _ e in absurd (d (both_below q gone h.1 h.0))
+    by true e = let h = and_parts _ _ e in absurd (d (both_below q gone h.1 h.0))
 
 module _ (t : Tree) (gone : Place) where
   number_is : (q : Place) → number_at (without_place t gone) q ≡ cond (stays gone q) (number_at t q) None

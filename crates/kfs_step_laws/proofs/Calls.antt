@@ -1,72 +1,40 @@
 -- Each call leaves a tree with its open files: its walk and its checks meet what its effect asks for.
-use Rattle.std.proofs.Common.{◌≡◌, ◌≢◌, ℕ, ◌≤◌, ◌+◌, ◌-◌, ◌==◌, ◌&&◌, ◌||◌, inl, inr, Bool, true, false, cond, refl, sym, ◌∙◌, ap, subst, arith, T, List, [], ◌∷◌, ◌++◌, length, take, Option, Some, None, is_some, Result, Ok, Err, lit≤}
-use Rattle.std.specs.Prelude.{nat_lt, nat_le, replicate, IsNone}
+use Rattle.std.proofs.Common.{◌≡◌, ◌≢◌, ℕ, ◌≤◌, ◌+◌, ◌-◌, ◌==◌, true, false, refl, sym, ◌∙◌, ap, subst, arith, T, List, [], ◌∷◌, ◌++◌, length, take, Option, Some, None, is_some, Ok, lit≤}
+use Rattle.std.specs.Prelude.{nat_lt, nat_le}
 use Rattle.std.specs.Ordering.{nat_cmp}
-use Rattle.std.specs.Option.{option_map, option_and_then}
 use Rattle.std.specs.FinMap.{find, is_sorted}
+use Rattle.std.proofs.lemmas.Bool.{and_parts, or_parts}
 use Rattle.std.proofs.lemmas.Bool.Decides.{nat_tests}
-use Rattle.std.proofs.lemmas.List.{length-take-le, length-append, length-replicate}
-use Rattle.std.proofs.lemmas.Option.{same_Some}
 use Rattle.kfs_path.specs.Pieces.{is_too_long, pieces_of}
 use Rattle.kfs_path.specs.declared.call.Call.{Call}
 use Rattle.kfs_path.specs.declared.call.Call.TheVariants as calls
-use Rattle.kfs_path.specs.declared.call.Errno.{Errno}
 use Rattle.kfs_path.specs.declared.call.Flags.{Flags}
 use Rattle.kfs_model.specs.declared.Node.{Node}
 use Rattle.kfs_model.specs.declared.Node.TheVariants.{Dir, File}
 use Rattle.kfs_model.specs.declared.Description.{Description}
-use Rattle.kfs_model.specs.Tree.{Limits, Tree, Place, Name, below, entry_at, walk, with_new, with_node, without_place, renamed, written, resized, padded, fits, greatest_length, IsTree, number_at, node_of}
-use Rattle.kfs_model.specs.Desk.{Desk, opened, lowest_free, with_description}
+use Rattle.kfs_model.specs.Tree.{Limits, Tree, Place, Name, below, walk, with_new, with_node, without_place, renamed, written, resized, fits, greatest_length, IsTree, number_at, node_of}
+use Rattle.kfs_model.specs.Desk.{Desk, opened, with_description}
 use Rattle.kfs_model.specs.Step
 use Rattle.kfs_model.specs.Life.{IsFree}
-use Rattle.kfs_model.proofs.Written.{length_written}
 use Rattle.kfs_laws.proofs.Outcomes
+use Rattle.kfs_laws.proofs.Contents.{entry_is, entry_file, content_is, length_resized}
 use Rattle.kfs_laws.proofs.Lookups.{none_some}
-use Rattle.kfs_laws.proofs.Making.{IsFreePlace, new_tree, content_tree}
+use Rattle.kfs_laws.proofs.Making.{IsFreePlace, new_tree, content_tree, node_before}
 use Rattle.kfs_laws.proofs.Unnaming.{unnamed_tree}
 use Rattle.kfs_laws.proofs.Unnaming as unnaming
 use Rattle.kfs_laws.proofs.Renamed.{IsGoal, renamed_tree}
 use Rattle.kfs_laws.proofs.Keeping.{swept_tree}
-use Rattle.kfs_laws.proofs.Fitting.{fits_most}
-use Rattle.kfs_laws.proofs.Desks.{opened_is, closed_before, closing_is}
+use Rattle.kfs_laws.proofs.Fitting.{fits_pass, length_fitting}
+use Rattle.kfs_laws.proofs.Desks.{opened_is, free_number, closed_before, closing_is}
 use Rattle.kfs_step_laws.specs.Laws.{IsWhole}
 use Rattle.kfs_step_laws.proofs.Open
 use Rattle.kfs_step_laws.proofs.Reaching
-use Rattle.kfs_step_laws.proofs.Walking
 use Rattle.kfs_step_laws.proofs.Walking.{IsIn, free_in, ends_in, none_there, leaf_empty, file_leaf, neither_dots, push_some}
-
--- ---- the path names an entry
-
--- the node of an entry
-entry_is : (t : Tree) (place : Place) (n : ℕ) (node : Node) → entry_at t place ≡ Some (n, node) → node_of t n ≡ Some node
-entry_is t place n node e = by (number_at t place) e
-  where
-    inner : (m : ℕ) (o : Option Node) → node_of t m ≡ o → option_map {U = ℕ × Node} (λ x. (m, x)) o ≡ Some (n, node) → node_of t n ≡ Some node
-    inner m None is e = absurd (cc)
-    inner m (Some x) is e = let pair = same_Some (m, x) (n, node) e in let same = ap (λ (q : ℕ × Node). q.0) pair in let kind = ap (λ (q : ℕ × Node). q.1) pair in ap (node_of t) (sym same) ∙ is ∙ ap Some kind
-
-    by : (o : Option ℕ) → option_and_then (λ m. option_map {U = ℕ × Node} (λ x. (m, x)) (node_of t m)) o ≡ Some (n, node) → node_of t n ≡ Some node
-    by None e = absurd (cc)
-    by (Some m) e = inner m (node_of t m) refl e
-
-file_of : (node : Node) (n : ℕ) → Step.has_dir (Some (n, node)) ≡ false → (b : List ℕ) × (node ≡ File b)
-file_of Dir n e = absurd (cc)
-file_of (File b) n e = (b, refl)
 
 -- ---- how long contents become
 
-content_is : (t : Tree) (n : ℕ) (b : List ℕ) → node_of t n ≡ Some (File b) → Step.content t n ≡ b
-content_is t n b e = rw e refl
-
-length_resized : (b : List ℕ) (n : ℕ) → length (resized b n) ≡ n
-length_resized b n = length-take-le n (padded b n) (let h = length-append b (replicate (n - length b) 0) in let g = length-replicate {A = ℕ} (n - length b) 0 in omega arith)
-
 longest : (l p j c g : ℕ) → l ≡ p + j + (c - (p + j)) → c ≤ g → p + j ≤ g → l ≤ g
 longest l p j c g e a b = omega arith
-
-left_of : (a b : Bool) → (a && b) ≡ true → a ≡ true
-left_of true b e = refl
-left_of false b e = absurd (cc)
 
 -- what is written ends within the greatest length
 written_short : (k : Limits) (t : Tree) (n p : ℕ) (given : List ℕ) → length (Step.content t n) ≤ greatest_length → (fits k t n (Step.content t n) p (length given) == 0) ≡ false
@@ -74,16 +42,9 @@ written_short : (k : Limits) (t : Tree) (n p : ℕ) (given : List ℕ) → lengt
 written_short k t n p given low some =
     let old = Step.content t n in
     let j = fits k t n old p (length given) in
-    let most = fits_most k t n old p (length given) in
-    let front : length (take j given) ≡ j = length-take-le j given most.within in
-    let long : length (written old p (take j given)) ≡ p + j + (length old - (p + j)) = length_written old p (take j given) ∙ ap (λ m. p + m + (length old - (p + m))) front in
-    elim most.passes [
-      | inl none ↦ absurd (let bad : (j == 0) ≡ true = grind (arith, nat_tests) in let worse : true ≡ false = sym bad ∙ some in cc)
-      | inr test ↦
-          let le : nat_le (p + j) greatest_length ≡ true = left_of _ _ test in
-          let end : p + j ≤ greatest_length = grind (arith, nat_tests) in
-          longest (length (written old p (take j given))) p j (length old) greatest_length long low end
-    ]
+    let test : nat_le (p + j) greatest_length ≡ true = (and_parts _ _ (fits_pass k t n old p (length given) some)).0 in
+    let end : p + j ≤ greatest_length = grind (arith, nat_tests) in
+    longest (length (written old p (take j given))) p j (length old) greatest_length (length_fitting k t n old p given) low end
 
 -- ---- what each effect leaves
 
@@ -141,14 +102,6 @@ no_some : {A : Type 0} (o : Option A) → is_some o ≡ false → o ≡ None
 no_some None e = refl
 no_some (Some x) e = absurd (cc)
 
-no_write : (a b : Bool) → (a || b) ≡ false → a ≡ false
-no_write true b e = absurd (cc)
-no_write false b e = refl
-
-is_none : {A : Type 0} (o : Option A) → IsNone o → o ≡ None
-is_none None h = refl
-is_none (Some x) h = absurd (let bad : true ≡ false = h in cc)
-
 module _ (k : Limits) (d : ℕ) (w : Step.World) (free : IsFree w d) (is : IsWhole w) where
   abbrev t : Tree
   t = w.tree
@@ -156,11 +109,8 @@ module _ (k : Limits) (d : ℕ) (w : Step.World) (free : IsFree w d) (is : IsWho
   opens : Open.Opens t w.desk
   opens = Open.opens_of w is.there is.files
 
-  same : Keeps t w.desk
-  same = record { tree = is.tree; opens = opens; reached = is.reached }
-
-  free_number : find nat_cmp d w.desk.descriptions ≡ None
-  free_number = is_none (find nat_cmp d w.desk.descriptions) free
+  pub still : Keeps t w.desk
+  still = record { tree = is.tree; opens = opens; reached = is.reached }
 
   more_same : (e : ℕ) (it : Description) → find nat_cmp e w.desk.descriptions ≡ Some it → (f : ℕ) × (x : Description) × (find nat_cmp f w.desk.descriptions ≡ Some x) × (x.node ≡ it.node)
   more_same e it f = (e, it, f, refl)
@@ -179,7 +129,11 @@ module _ (k : Limits) (d : ℕ) (w : Step.World) (free : IsFree w d) (is : IsWho
   -- the same of a tree with the same names
   opened_same : (u : Tree) (fd n : ℕ) (flags : Flags) → u.names ≡ t.names → ((m : ℕ) (x : Node) → node_of u m ≡ Some x → (y : Node) × (node_of t m ≡ Some y)) → IsTree u → Open.Carries t u → Open.Has u n flags.write → P (Step.opens w u fd d n flags)
   opened_same u fd n flags names nodes tree more has =
-      opened_keeps u fd n flags tree more has (Reaching.reached_same t u w.desk (Step.opens w u fd d n flags).world.desk names nodes (Reaching.more_new w.desk d (made n flags) free_number) is.reached)
+      opened_keeps u fd n flags tree more has (Reaching.reached_same t u w.desk (Step.opens w u fd d n flags).world.desk names nodes (Reaching.more_new w.desk d (made n flags) (free_number w d free)) is.reached)
+
+  -- the same of the tree as it is
+  opened_still : (fd n : ℕ) (node : Node) (flags : Flags) → node_of t n ≡ Some node → (flags.write ≡ true → (bytes : List ℕ) × (node ≡ File bytes)) → P (Step.opens w t fd d n flags)
+  opened_still fd n node flags e may = opened_same t fd n flags refl (λ m x e. (x, e)) is.tree (λ n write h. h) (node, e, may)
 
   -- a description at another offset
   moved_keeps : (fd : ℕ) (it : ℕ × Description) (u : Tree) (new : Description) → opened w.desk fd ≡ Some it → new.node ≡ it.1.node → new.write ≡ it.1.write
@@ -206,41 +160,24 @@ module _ (k : Limits) (d : ℕ) (w : Step.World) (free : IsFree w d) (is : IsWho
   no_file : (bytes : List ℕ) → ◌≡◌ {A = Node} Dir (File bytes) → length bytes ≤ greatest_length
   no_file bytes e = absurd (cc)
 
+  -- a new file, a directory, a file as it is, and one that is cut to no bytes
   open_keeps : (path : List ℕ) (flags : Flags) → Outcomes.Each P (Step.open_path k d w path flags)
-  open_keeps path flags = search (Outcomes.each_syntax P, Outcomes.each_bind P, Outcomes.each_then P, open_it) depth 20
-    where
-      old_file : (b : Bool) (place : Place) (fd n : ℕ) (bytes : List ℕ) → entry_at t place ≡ Some (n, File bytes) → P (Step.opens w (cond b (with_node t n (File [])) t) fd d n flags)
-      old_file true place fd n bytes e =
-          let file = entry_is t place n (File bytes) e in
-          let more = Open.carries_content t n [] in
-          opened_same (with_node t n (File [])) fd n flags refl (Reaching.content_before t n (File bytes) (File []) file) (filled_tree t is.tree n bytes [] file (lit≤ tt)) more (more n flags.write (File bytes, file, λ may. (bytes, refl)))
-      old_file false place fd n bytes e = opened_same t fd n flags refl (λ m x e. (x, e)) is.tree (λ n write h. h) (File bytes, entry_is t place n (File bytes) e, λ may. (bytes, refl))
-
-      new_file : (place : Place) (fd : ℕ) → is_too_long path ≡ false → walk t (pieces_of path) ≡ Ok place → Step.is_there t place ≡ false → P (Step.opens w (with_new t place (File [])) fd d t.next flags)
-      new_file place fd short walked free = opened_keeps (with_new t place (File [])) fd t.next flags (made_tree t is.tree path place (File []) short walked free no_bytes) (Open.carries_new t is.tree place (File []))
-          (File [], Open.new_there t place (File []), λ may. ([], refl))
-          (Reaching.reached_new t w.desk (Step.opens w (with_new t place (File [])) fd d t.next flags).world.desk place (File []) (none_there t is.tree place free) (Reaching.more_new w.desk d (made t.next flags) free_number) is.reached)
-
-      old_dir : (place : Place) (fd n : ℕ) → entry_at t place ≡ Some (n, Dir) → flags.write ≡ false → P (Step.opens w t fd d n flags)
-      old_dir place fd n e may = opened_same t fd n flags refl (λ m x e. (x, e)) is.tree (λ n write h. h) (Dir, entry_is t place n Dir e, λ yes. absurd (let bad : true ≡ false = sym yes ∙ may in cc))
-
-      at : (route : Step.Route) (place : Place) (o : Option (ℕ × Node)) → is_too_long path ≡ false → walk t (pieces_of path) ≡ Ok place → entry_at t place ≡ o → Outcomes.Each P (Step.open_at k d w route place flags o)
-      at route place None short walked e =
-          let new = λ (fd : ℕ) (l : lowest_free w.desk ≡ Some fd). new_file place fd short walked (ap is_some e) in
-          search (Outcomes.each_or_else P, Outcomes.each_then P, new) depth 12
-      at route place (Some (n, Dir)) short walked e =
-          let dir = λ (may : (flags.write || flags.creat) ≡ false) (fd : ℕ) (l : lowest_free w.desk ≡ Some fd). old_dir place fd n e (no_write flags.write flags.creat may) in
-          search (Outcomes.each_then P, Outcomes.each_unless P, Outcomes.each_or_else P, dir) depth 16
-      at route place (Some (n, File bytes)) short walked e =
-          let old = λ (fd : ℕ) (l : lowest_free w.desk ≡ Some fd). old_file flags.trunc place fd n bytes e in
-          search (Outcomes.each_or_else P, Outcomes.each_then P, old) depth 12
-
-      open_it : (route : Step.Route) (place : Place) → is_too_long path ≡ false → walk t (pieces_of path) ≡ Ok place → Outcomes.Each P (Step.open_at k d w route place flags (entry_at t place))
-      open_it route place short walked = at route place (entry_at t place) short walked refl
+  open_keeps path flags = Outcomes.open_each P w k d path flags (record {
+    new = λ place fd spot l.
+        opened_keeps (with_new t place (File [])) fd t.next flags (made_tree t is.tree path place (File []) spot.short spot.walked spot.free no_bytes) (Open.carries_new t is.tree place (File []))
+        (File [], Open.new_there t place (File []), λ may. ([], refl))
+        (Reaching.reached_new t w.desk (Step.opens w (with_new t place (File [])) fd d t.next flags).world.desk place (File []) (none_there t is.tree place spot.free) (Reaching.more_new w.desk d (made t.next flags) (free_number w d free)) is.reached);
+    dir = λ place fd n e may l. opened_still fd n Dir flags (entry_is t place n Dir e) (λ yes. absurd (let bad : true ≡ false = sym yes ∙ may in cc));
+    file = λ place fd n bytes e l. opened_still fd n (File bytes) flags (entry_is t place n (File bytes) e) (λ may. (bytes, refl));
+    cut = λ place fd n bytes e l.
+        let file = entry_is t place n (File bytes) e in
+        let more = Open.carries_content t n [] in
+        opened_same (with_node t n (File [])) fd n flags refl (node_before t is.tree n bytes [] file) (filled_tree t is.tree n bytes [] file (lit≤ tt)) more (more n flags.write (File bytes, file, λ may. (bytes, refl)));
+  })
 
   -- a file gets another content
   filled_keeps : (n : ℕ) (was bytes : List ℕ) → node_of t n ≡ Some (File was) → length bytes ≤ greatest_length → Keeps (with_node t n (File bytes)) w.desk
-  filled_keeps n was bytes file low = record { tree = filled_tree t is.tree n was bytes file low; opens = Open.carried t (with_node t n (File bytes)) w.desk (Open.carries_content t n bytes) opens; reached = Reaching.reached_same t (with_node t n (File bytes)) w.desk w.desk refl (Reaching.content_before t n (File was) (File bytes) file) more_same is.reached }
+  filled_keeps n was bytes file low = record { tree = filled_tree t is.tree n was bytes file low; opens = Open.carried t (with_node t n (File bytes)) w.desk (Open.carries_content t n bytes) opens; reached = Reaching.reached_same t (with_node t n (File bytes)) w.desk w.desk refl (node_before t is.tree n was bytes file) more_same is.reached }
 
   content_low : (n : ℕ) (was : List ℕ) → node_of t n ≡ Some (File was) → length (Step.content t n) ≤ greatest_length
   content_low n was file = subst (λ b. length b ≤ greatest_length) (sym (content_is t n was file)) (is.tree.lengths n was file)
@@ -258,21 +195,20 @@ module _ (k : Limits) (d : ℕ) (w : Step.World) (free : IsFree w d) (is : IsWho
       swept_keeps (record { tree = t; desk = Outcomes.closed P w fd }) is.tree (λ n x f. opens n x (closed_before w.desk is.desk fd n x f)) (closing_is w.desk is.desk fd).sorted_descriptions)
   keeps (calls.Dup fd) = Outcomes.dup_each P w fd (λ it new e l. record { tree = is.tree; opens = opens; reached = is.reached })
   keeps (calls.Read fd count) = Outcomes.read_each P w fd count (λ bytes it p e. moved_keeps fd it t _ e refl refl refl (λ m x e. (x, e)) is.tree (λ n write h. h))
-  keeps (calls.Write fd bytes) = Outcomes.write_each P w k fd bytes same (λ it p e may some.
+  keeps (calls.Write fd bytes) = Outcomes.write_each P w k fd bytes still (λ it p e may some.
       let file = written_file fd it e may in
-      moved_keeps fd it _ _ e refl refl refl (Reaching.content_before t it.1.node (File file.0) _ file.1) (filled_tree t is.tree it.1.node file.0 _ file.1 (written_short k t it.1.node p (Step.bytes_of bytes) (content_low it.1.node file.0 file.1) some)) (Open.carries_content t it.1.node _))
-  keeps (calls.Pread fd count offset) = Outcomes.pread_each P w fd count offset (λ bytes. same)
-  keeps (calls.Pwrite fd bytes offset) = Outcomes.pwrite_each P w k fd bytes offset same (λ it p e may some.
+      moved_keeps fd it _ _ e refl refl refl (node_before t is.tree it.1.node file.0 _ file.1) (filled_tree t is.tree it.1.node file.0 _ file.1 (written_short k t it.1.node p (Step.bytes_of bytes) (content_low it.1.node file.0 file.1) some)) (Open.carries_content t it.1.node _))
+  keeps (calls.Pread fd count offset) = Outcomes.pread_each P w fd count offset (λ bytes. still)
+  keeps (calls.Pwrite fd bytes offset) = Outcomes.pwrite_each P w k fd bytes offset still (λ it p e may some.
       let file = written_file fd it e may in
       filled_keeps it.1.node file.0 _ file.1 (written_short k t it.1.node p (Step.bytes_of bytes) (content_low it.1.node file.0 file.1) some))
   keeps (calls.Lseek fd whence offset) = Outcomes.lseek_each P w fd whence offset (λ n it p e. moved_keeps fd it t _ e refl refl refl (λ m x e. (x, e)) is.tree (λ n write h. h))
-  keeps (calls.Truncate path size) = Outcomes.truncate_each P w k path size (λ place e at there dir low.
-      let entry : entry_at t place ≡ Some (e.0, e.1) = there in
-      let file = file_of e.1 e.0 (sym (ap Step.has_dir entry) ∙ dir) in
-      filled_keeps e.0 file.0 _ (entry_is t place e.0 e.1 entry ∙ ap Some file.1) (resized_low (Step.content t e.0) (Step.natural size) low))
-  keeps (calls.Ftruncate fd size) = Outcomes.ftruncate_each P w k fd size (λ it e may low.
-      let file = written_file fd it e may in
-      filled_keeps it.1.node file.0 _ file.1 (resized_low (Step.content t it.1.node) (Step.natural size) low))
+  keeps (calls.Truncate path size) = Outcomes.truncate_each P w k path size (λ place e at there dir may.
+      let file = entry_file t place e there dir in
+      filled_keeps e.0 file.0 _ file.1 (resized_low (Step.content t e.0) (Step.natural size) may.short))
+  keeps (calls.Ftruncate fd size) = Outcomes.ftruncate_each P w k fd size (λ it e write may.
+      let file = written_file fd it e write in
+      filled_keeps it.1.node file.0 _ file.1 (resized_low (Step.content t it.1.node) (Step.natural size) may.short))
   keeps (calls.Mkdir path) = Outcomes.mkdir_each P w k path (λ place spot. record {
     tree = made_tree t is.tree path place Dir spot.short spot.walked spot.free no_file;
     opens = Open.carried t (with_new t place Dir) w.desk (Open.carries_new t is.tree place Dir) opens;
@@ -284,20 +220,16 @@ module _ (k : Limits) (d : ℕ) (w : Step.World) (free : IsFree w d) (is : IsWho
   keeps (calls.Unlink path) = Outcomes.unlink_each P w path (λ place there dir.
       let leaf = file_leaf t is.tree place there dir in
       named_keeps (without_place t place) (unnamed_tree t place is.tree leaf.0 leaf.1) refl)
-  keeps (calls.Rename old new) = Outcomes.rename_each P w old new same (λ p q move.
-      let dots = Walking.or_false (Step.ends_in_dots (pieces_of old)) (Step.ends_in_dots (pieces_of new)) move.ends in
-      let roots = Walking.or_false (Step.is_root (pieces_of old)) (Step.is_root (pieces_of new)) move.roots in
+  keeps (calls.Rename old new) = Outcomes.rename_each P w old new still (λ p q move.
+      let dots = or_parts (Step.ends_in_dots (pieces_of old)) (Step.ends_in_dots (pieces_of new)) move.ends in
+      let roots = or_parts (Step.is_root (pieces_of old)) (Step.is_root (pieces_of new)) move.roots in
       let at = ends_in t is.tree new q move.short dots.1 roots.1 move.to in
       named_keeps (renamed (without_place t q) p q) (moved_tree t is.tree p q at (leaf_empty t is.tree q move.empty) (no_some (below p q) move.apart)) refl)
-  keeps (calls.Stat path) = Outcomes.stat_each P w path (λ reply e. same)
-  keeps (calls.Fstat fd) = Outcomes.fstat_each P w fd (λ o reply e. same)
-  keeps (calls.List path) = Outcomes.list_each P w path (λ reply e. same)
-  keeps (calls.Fsync fd) = Outcomes.fsync_each P w fd same
-  keeps calls.Sync = same
-  keeps calls.Room = same
-  keeps calls.Tree = same
-  keeps (calls.Work operations) = same
-
-  pub settled_keeps : (r : Result Step.After Errno) → Outcomes.Each P r → Keeps (Step.settled w r).world.tree (Step.settled w r).world.desk
-  settled_keeps (Ok after) h = h
-  settled_keeps (Err e) h = same
+  keeps (calls.Stat path) = Outcomes.stat_each P w path (λ reply e. still)
+  keeps (calls.Fstat fd) = Outcomes.fstat_each P w fd (λ o reply e. still)
+  keeps (calls.List path) = Outcomes.list_each P w path (λ reply e. still)
+  keeps (calls.Fsync fd) = Outcomes.fsync_each P w fd still
+  keeps calls.Sync = still
+  keeps calls.Room = still
+  keeps calls.Tree = still
+  keeps (calls.Work operations) = still

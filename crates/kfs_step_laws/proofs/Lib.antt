@@ -1,5 +1,6 @@
 pub mod Calls
 pub mod Open
 pub mod Reaching
+pub mod Room
 pub mod Start
 pub mod Walking

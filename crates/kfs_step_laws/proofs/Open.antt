@@ -1,9 +1,8 @@
 -- What is open is there after each kind of change.
-use Rattle.std.proofs.Common.{◌≡◌, ℕ, ◌==◌, ◌||◌, inl, inr, Bool, true, false, cond, refl, sym, ◌∙◌, ap, arith, List, [], ◌∷◌, Some, None}
-use Rattle.std.specs.List.{list_any}
-use Rattle.std.specs.Ordering.{nat_cmp, eq_by_cmp}
-use Rattle.std.specs.FinMap.{find, put, nat_cmp-IsAntisymmetric}
-use Rattle.std.specs.FinMap.Entries.{find-where_key}
+use Rattle.std.proofs.Common.{◌≡◌, ℕ, ◌==◌, inl, inr, Bool, true, cond, refl, sym, ◌∙◌, ap, arith, List, Some, None}
+use Rattle.std.specs.Ordering.{nat_cmp}
+use Rattle.std.specs.FinMap.{find, put}
+use Rattle.std.proofs.lemmas.Bool.{or_right}
 use Rattle.std.proofs.lemmas.Bool.Decides.{nat_tests}
 use Rattle.std.proofs.lemmas.Option.{same_Some}
 use Rattle.kfs_model.specs.declared.Description.{Description}
@@ -13,7 +12,8 @@ use Rattle.kfs_model.specs.Tree.{Tree, Place, with_new, with_node, is_named, IsT
 use Rattle.kfs_model.specs.Desk.{Desk, is_open}
 use Rattle.kfs_model.specs.Step.{World, swept}
 use Rattle.kfs_laws.specs.Worlds.{WritesFiles}
-use Rattle.kfs_laws.proofs.Lookups.{number_put, number_other, decide_number, or_left}
+use Rattle.kfs_laws.proofs.Keeping.{swept_node}
+use Rattle.kfs_laws.proofs.Lookups.{number_put, number_other, decide_number, some_passes}
 use Rattle.kfs_step_laws.specs.Laws.{OpensNodes}
 
 -- the node is there, as a file where it may be written
@@ -74,25 +74,12 @@ opens_put t desk d new after is has open' e it f = elim (decide_number e d) [
 
 -- ---- what nothing names goes
 
-or_right : (a b : Bool) → b ≡ true → (a || b) ≡ true
-or_right true b e = refl
-or_right false b e = e
-
-some_open : (d : ℕ) (it : Description) (es : List (ℕ × Description)) → find nat_cmp d es ≡ Some it → list_any (λ e. e.1.node == it.node) es ≡ true
-some_open d it [] e = absurd (cc)
-some_open d it (x ∷ es) e = by (eq_by_cmp nat_cmp d x.0) (some_open d it es) e
-  where
-    by : (b : Bool) → (find nat_cmp d es ≡ Some it → list_any (λ e. e.1.node == it.node) es ≡ true) → cond b (Some x.1) (find nat_cmp d es) ≡ Some it → ((x.1.node == it.node) || list_any (λ e. e.1.node == it.node) es) ≡ true
-    by true rest e = let h : x.1.node ≡ it.node = ap (λ (y : Description). y.node) (same_Some x.1 it e) in let t : (x.1.node == it.node) ≡ true = grind (arith, nat_tests) in or_left (x.1.node == it.node) (list_any (λ e. e.1.node == it.node) es) t
-    by false rest e = or_right (x.1.node == it.node) (list_any (λ e. e.1.node == it.node) es) (rest e)
-
 pub opens_swept : (w : World) → Opens w.tree w.desk → Opens (swept w).tree (swept w).desk
 opens_swept w open' d it e =
     let h = open' d it e in
-    let stays : ℕ → Bool = λ n. is_named w.tree n || is_open w.desk n in
-    let test : stays it.node ≡ true = or_right (is_named w.tree it.node) (is_open w.desk it.node) (some_open d it w.desk.descriptions e) in (
-      h.0,
-      find-where_key nat_cmp stays it.node (λ x f. ap stays (sym (nat_cmp-IsAntisymmetric it.node x f))) w.tree.nodes
-          ∙ ap (λ b. cond b (node_of w.tree it.node) None) test ∙ h.1,
-      h.2,
-    )
+    let some = some_passes nat_cmp (λ (x : Description). x.node == it.node) w.desk.descriptions d it e (same_test it.node) in
+    let test = or_right (is_named w.tree it.node) (is_open w.desk it.node) some in
+    (h.0, swept_node w it.node ∙ ap (λ b. cond b (node_of w.tree it.node) None) test ∙ h.1, h.2)
+  where
+    same_test : (n : ℕ) → (n == n) ≡ true
+    same_test n = grind (arith, nat_tests)

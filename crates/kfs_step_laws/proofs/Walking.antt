@@ -5,6 +5,7 @@ use Rattle.std.specs.Str.{bytes_eq}
 use Rattle.std.proofs.lemmas.Slice.Eq.{bytes_eq-Decides}
 use Rattle.std.proofs.lemmas.List.{length_push, take-append-le, take_all}
 use Rattle.std.proofs.lemmas.List.Elements.{All-head, All-tail}
+use Rattle.std.proofs.lemmas.Bool.{or_parts}
 use Rattle.std.proofs.lemmas.Bool.Decides.{nat_tests}
 use Rattle.std.proofs.lemmas.Option.{same_Some}
 use Rattle.kfs_path.specs.Names.{IsPiece}
@@ -20,10 +21,6 @@ use Rattle.kfs_laws.proofs.Moves.{listed}
 
 ok_is : {A B : Type 0} (x y : A) → ◌≡◌ {A = Result A B} (Ok x) (Ok y) → x ≡ y
 ok_is x y e = cc
-
-pub or_false : (a b : Bool) → (a || b) ≡ false → (a ≡ false) × (b ≡ false)
-or_false true b e = absurd (cc)
-or_false false b e = (refl, e)
 
 not_bytes : (xs ys : Name) → bytes_eq xs ys ≡ false → xs ≢ ys
 not_bytes xs ys e f = let bad : true ≡ false = sym ((bytes_eq-Decides xs ys).1 f) ∙ e in cc
@@ -134,14 +131,14 @@ module _ (t : Tree) (tree : IsTree t) where
       walk_lands (further place piece) pieces q (All-tail IsPiece piece pieces parts) (further_lands place dir.0 dir.1 dir.2 piece (All-head IsPiece piece pieces parts)) into.2
 
   pub free_in : (path : List ℕ) (place : Place) → is_too_long path ≡ false → walk t (pieces_of path) ≡ Ok place → is_there t place ≡ false → IsIn t place
-  free_in path place short walked free = walk_lands [] (pieces_of path) place (pieces_whole path (or_false _ _ short).1) (lands_there [] root_there) walked free
+  free_in path place short walked free = walk_lands [] (pieces_of path) place (pieces_whole path (or_parts _ _ short).1) (lands_there [] root_there) walked free
 
   ends_from : (place : Place) (pieces : List Name) (q : Place) → All IsPiece pieces → ends_in_dots pieces ≡ false → is_root pieces ≡ false → walk_from t place pieces ≡ Ok q → IsIn t q
   ends_from place [] q parts dots root e = absurd (cc)
   ends_from place (piece ∷ []) q parts dots root e =
       let into = bind_ok (entered (entry_at t place)) (λ _. walk_from t (further place piece) []) q e in
       let dir = dir_at t place into.0 into.1 in
-      let d = or_false (is_dot piece) (is_dot_dot piece) dots in
+      let d = or_parts (is_dot piece) (is_dot_dot piece) dots in
       record {
         up = place;
         name = piece;
@@ -157,7 +154,7 @@ module _ (t : Tree) (tree : IsTree t) where
 
   -- a path that ends in a name leads into a directory
   pub ends_in : (path : List ℕ) (q : Place) → is_too_long path ≡ false → ends_in_dots (pieces_of path) ≡ false → is_root (pieces_of path) ≡ false → walk t (pieces_of path) ≡ Ok q → IsIn t q
-  ends_in path q short dots root walked = ends_from [] (pieces_of path) q (pieces_whole path (or_false _ _ short).1) dots root walked
+  ends_in path q short dots root walked = ends_from [] (pieces_of path) q (pieces_whole path (or_parts _ _ short).1) dots root walked
 
   -- nothing lies below what is empty
   pub leaf_empty : (q : Place) → isnt_empty t q ≡ false → (x : Name) → number_at t (q ++ x ∷ []) ≡ None

@@ -1,11 +1,11 @@
 -- What is kept by whole calls: the walk, the checks and the effect together.
-use Rattle.std.specs.Prelude.{ℕ, ◌≡◌, ◌⊎◌, Some}
+use Rattle.std.specs.Prelude.{ℕ, ◌≡◌, ◌≤◌, ◌⊎◌, ◌↔◌, true, Some}
 use Rattle.std.specs.Ordering.{nat_cmp}
 use Rattle.std.specs.FinMap.{find}
 use Rattle.kfs_path.specs.declared.call.Call.{Call}
 use Rattle.kfs_model.specs.declared.Description.{Description}
 use Rattle.kfs_model.specs.declared.Node.{Node}
-use Rattle.kfs_model.specs.Tree.{Limits, Place, IsTree, number_at, node_of, root_alone}
+use Rattle.kfs_model.specs.Tree.{Limits, Place, IsTree, number_at, node_of, root_alone, has_room}
 use Rattle.kfs_model.specs.Desk.{empty_desk}
 use Rattle.kfs_model.specs.Life.{IsFree}
 use Rattle.kfs_model.specs.Step.{World, step}
@@ -33,3 +33,11 @@ abbrev pub EachCallLeavesATreeWithItsOpenFiles : Type 0
 EachCallLeavesATreeWithItsOpenFiles =
     IsWhole (record { tree = root_alone; desk = empty_desk })
     × ((k : Limits) (d : ℕ) (w : World) (call : Call) → IsFree w d → IsWhole w → IsWhole (step k d w call).world)
+
+-- a root alone has room exactly where there are three keys or more
+abbrev pub RootAloneTakesThreeKeys : Type 0
+RootAloneTakesThreeKeys = (k : Limits) → (has_room k root_alone ≡ true) ↔ (3 ≤ k.keys)
+
+-- a tree that has room has room after each call, whatever the call answers
+abbrev pub EachCallKeepsTheRoom : Type 0
+EachCallKeepsTheRoom = (k : Limits) (d : ℕ) (w : World) (call : Call) → IsTree w.tree → has_room k w.tree ≡ true → has_room k (step k d w call).world.tree ≡ true
