@@ -1,5 +1,6 @@
 // The tree's calls, over a running transaction that shows the tree.
-ghost use Rattle.std.specs.Prelude.{◌≡◌, ◌≤◌, ◌<◌, ◌+◌, ◌-◌, ◌^◌, min, true, All, OnOk, IfOk, IfErr};
+ghost use Rattle.std.specs.Prelude.{◌≡◌, ◌≤◌, ◌<◌, ◌+◌, ◌-◌, ◌^◌, true, All, OnOk, IfOk, IfErr};
+ghost use Rattle.kv_base.specs.Counts.{one_more};
 ghost use Rattle.kv_device.specs.Machine.{none_open, with_most_cuts, with_most_faults};
 ghost use Rattle.kv_device.specs.Calls.{Ages};
 ghost use Rattle.kfs_objects.specs.Keys.{IsNamed};
@@ -233,7 +234,7 @@ impl<D: PlannedDevice> Kfs<D> {
         requires kind { kind ≤ 2 }
         ensures planned { run_in self.new ≡ record (run_in self.old) { machine = with_most_faults (run_in self.old).machine (run_in self.new).machine.most_faults } }
         ensures fewest { (run_in self.old).machine.faults ≤ (run_in self.new).machine.most_faults }
-        ensures most { (run_in self.new).machine.most_faults ≤ min ((run_in self.old).machine.faults + 1) (2 ^ 64 - 1) }
+        ensures most { (run_in self.new).machine.most_faults ≤ one_more (run_in self.old).machine.faults }
         ensures rest { Stays self.old self.new }
         ensures age { self.new.running.device_age ≡ self.old.running.device_age }
     {

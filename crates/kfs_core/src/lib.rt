@@ -6,7 +6,6 @@ mod clearing;
 mod counting;
 mod directories;
 mod dropping;
-mod endings;
 mod fault;
 mod files;
 mod formatting;

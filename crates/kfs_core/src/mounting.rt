@@ -52,6 +52,7 @@ pub fn stored_super<D: Device>(alloc: Global, device: &mut D) -> Result<Option<S
 pub fn is_low(head: &Super) -> bool
     ensures changes { IsTrue result → head.now.changes < 2 ^ 62 }
     ensures next { IsTrue result → head.now.next < 2 ^ 62 }
+    ensures low { head.now.changes < 2 ^ 62 → head.now.next < 2 ^ 62 → IsTrue result }
 {
     if head.changes >= TOO_HIGH {
         return false;

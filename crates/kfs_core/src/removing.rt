@@ -12,11 +12,11 @@ ghost use Rattle.kfs_core.specs.Removing.{Loses, Releases, ReleaseDoes, ReleaseF
 ghost use Rattle.kfs_core.specs.Spot.{route_of, where_of};
 
 use crate::dropping::{GREATEST_LENGTH, delete_orphan, drop_node};
-use crate::endings::{ends_in_dot, ends_in_dot_dot, ends_in_dots, is_root};
 use crate::room::chunks_for;
 use crate::walking::{Spot, found, inode, parent, walk};
 use crate::{CoreFault, Kfs};
 use kfs_dir::{is_empty, remove};
+use kfs_model::{ends_in_dot, ends_in_dot_dot, ends_in_dots, is_root};
 use kfs_objects::{orphan_key, orphan_value};
 use kfs_path::{Errno, Path};
 use kfs_tx::Running;

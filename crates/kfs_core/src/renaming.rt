@@ -12,12 +12,12 @@ ghost use Rattle.kfs_core.specs.Renaming.{IsPlain, MoveFault, Moves, RenameDoes,
 ghost use Rattle.kfs_core.specs.Spot.{route_of, where_of};
 
 use crate::dropping::GREATEST_LENGTH;
-use crate::endings::{ends_in_dots, is_root};
 use crate::removing::{Leaf, chunks_lost, has_names, is_open_in, lose_name, walk_to_name};
 use crate::room::chunks_for;
 use crate::walking::{Spot, found, parent};
 use crate::{CoreFault, Kfs};
 use kfs_dir::{add, remove};
+use kfs_model::{ends_in_dots, is_root};
 use kfs_objects::Inode;
 use kfs_path::{Errno, Path};
 use kfs_tx::Running;

@@ -1,8 +1,11 @@
 //! The definitions of the file system's plain tree, and the types that they speak of.
 #![tactic(auto)]
 
+mod endings;
+
 ghost use Rattle.std.specs.Prelude.{◌≡◌, ◌∷◌, []};
 
+pub use endings::{ends_in_dot, ends_in_dot_dot, ends_in_dots, is_dot, is_dot_dot, is_root};
 use kfs_path::{Call, Reply};
 use kv_base::{Damage, Text};
 use std::alloc::AllocError;

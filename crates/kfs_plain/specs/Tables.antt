@@ -1,8 +1,9 @@
 -- The tree and the desk that the tables keep.
-use Rattle.std.specs.Prelude.{ℕ, ◌≡◌, ◌≤◌, ◌+◌, ◌/◌, ◌==◌, not, nat_lt, nat_le, List, [], ◌∷◌, length, Some, None, IsSome, Result, Ok, if◌then◌else◌, T}
+use Rattle.std.specs.Prelude.{ℕ, ◌≡◌, ◌≤◌, ◌+◌, ◌/◌, ◌==◌, ◌||◌, not, nat_lt, nat_le, List, [], ◌∷◌, length, Some, None, IsSome, Result, Ok, if◌then◌else◌, T}
 use Rattle.std.specs.Ordering.{nat_cmp}
 use Rattle.std.specs.List.{filter, list_any}
 use Rattle.std.specs.FinMap.{find, put, is_sorted}
+use Rattle.std.specs.BTreeSet.{BTreeSet, contains}
 use Rattle.kfs_path.specs.Pieces.{is_empty}
 use Rattle.kfs_path.specs.declared.call.Errno.{Errno}
 use Rattle.kfs_path.specs.declared.call.Errno.TheVariants.{EINVAL, EFBIG, ENOSPC}
@@ -10,7 +11,7 @@ use Rattle.kfs_path.specs.declared.call.Whence.{Whence}
 use Rattle.kfs_path.specs.declared.call.Whence.TheVariants.{Set, Cur, End}
 use Rattle.kfs_path.specs.declared.path.Path.{Path}
 use Rattle.kfs_model.specs.Ladder.{◌>>◌, ◌when◌}
-use Rattle.kfs_model.specs.Tree.{Tree, Limits, charge, chunks, node_of, fits, greatest_length}
+use Rattle.kfs_model.specs.Tree.{Place, Tree, Limits, charge, chunks, node_of, fits, greatest_length}
 use Rattle.kfs_model.specs.declared.Description.{Description}
 use Rattle.kfs_model.specs.Desk.{Desk, with_description}
 use Rattle.kfs_model.specs.Step.{Route, World, content, with_offset, greatest_count}
@@ -72,6 +73,14 @@ writable k t n p given = do
     EFBIG when nat_le greatest_length p
     ENOSPC when (fits k t n (content t n) p (length given) == 0)
     Ok (fits k t n (content t n) p (length given))
+
+-- other names
+abbrev pub with_names : World → List (Place × ℕ) → World
+with_names w names = record { tree = record { names = names; nodes = w.tree.nodes; next = w.tree.next }; desk = w.desk }
+
+-- the set has exactly the numbers of the nodes that a place or a description names
+abbrev pub HasUsed : BTreeSet ℕ → List (Place × ℕ) → List (ℕ × Description) → Type 0
+HasUsed used names descriptions = (n : ℕ) → contains nat_cmp used n ≡ (list_any (λ e. e.1 == n) names || list_any (λ e. e.1.node == n) descriptions)
 
 -- the chunks are counted as they are
 abbrev pub IsCounted : Files → Type 0

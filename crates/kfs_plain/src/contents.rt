@@ -38,21 +38,21 @@ fn filled(alloc: Global, byte: u8, count: usize) -> Result<Text, Memory>
 }
 
 /// How many bytes a call gives.
-pub fn data_len(data: &Data) -> usize
-    ensures { result ≡ length (bytes_of data.now) }
+pub fn data_len(given: &Data) -> usize
+    ensures { result ≡ length (bytes_of given.now) }
 {
-    match data {
+    match given {
         Data::Plain(text) => text.bytes().len(),
         Data::Fill { count, .. } => *count as usize,
     }
 }
 
 /// The first bytes that a call gives.
-pub fn data_front(alloc: Global, data: &Data, count: usize) -> Result<Text, Memory>
-    requires { count ≤ length (bytes_of data.now) }
-    ensures { IfOk result (λ text. text ≡ take count (bytes_of data.now)) }
+pub fn data_front(alloc: Global, given: &Data, count: usize) -> Result<Text, Memory>
+    requires { count ≤ length (bytes_of given.now) }
+    ensures { IfOk result (λ text. text ≡ take count (bytes_of given.now)) }
 {
-    match data {
+    match given {
         Data::Plain(text) => Text::new(alloc, &text.bytes()[..count]),
         Data::Fill { byte, .. } => filled(alloc, *byte, count),
     }

@@ -11,7 +11,7 @@ ghost use Rattle.kfs_plain.specs.Tables.{tree_of, desk_of, world_of, limits_of, 
 
 use crate::contents::put_content;
 use crate::fault::Fault;
-use crate::removing::sweep;
+use crate::removing::{sweep, used};
 use crate::room::{add_node, charge};
 use crate::tables::{OpenFiles, Tables};
 use crate::walking::{entry_at, syntax, walk};
@@ -281,20 +281,22 @@ fn has_description(descriptors: &BTreeMap<u32, u64>, number: u64) -> bool
     false
 }
 
-/// Takes a descriptor away, and each description that no descriptor has.
-fn drop_descriptor(desk: &mut OpenFiles, fd: u32)
-    ensures { desk_of desk.new ≡ closed (desk_of desk.old) fd }
+/// The open files without a descriptor, and without each description that no descriptor has then.
+fn without(desk: &OpenFiles, fd: u32) -> Result<OpenFiles, Memory>
+    ensures { IfOk result (λ left. desk_of left ≡ closed (desk_of desk.now) fd) }
 {
-    desk.descriptors.retain(|f, _| *f != fd);
-    let OpenFiles {
+    let mut descriptors = copy_of(&desk.descriptors)?;
+    descriptors.retain(|f, _| *f != fd);
+    let mut descriptions = copy_of_descriptions(&desk.descriptions)?;
+    descriptions.retain(|number, _| has_description(&descriptors, *number));
+    Ok(OpenFiles {
         descriptors,
         descriptions,
-    } = desk;
-    descriptions.retain(|number, _| has_description(descriptors, *number));
+    })
 }
 
 /// Closes a descriptor.
-pub fn close(t: &mut Tables, fd: u32) -> Result<Reply, Fault>
+pub fn close(alloc: Global, t: &mut Tables, fd: u32) -> Result<Reply, Fault>
     requires kept { IsKept t.old }
     ensures kept { IsKept t.new }
     ensures limits { limits_of t.new ≡ limits_of t.old }
@@ -303,8 +305,10 @@ pub fn close(t: &mut Tables, fd: u32) -> Result<Reply, Fault>
     if opened(&t.desk, fd).is_none() {
         return Err(Fault::No(Errno::EBADF));
     }
-    drop_descriptor(&mut t.desk, fd);
-    sweep(t);
+    let desk = without(&t.desk, fd)?;
+    let used = used(alloc, &t.files.names, &desk.descriptions)?;
+    t.desk = desk;
+    sweep(t, &used);
     Ok(Reply::Done)
 }
 

@@ -1,75 +1,87 @@
 //! Removing and renaming.
-ghost use Rattle.std.specs.Prelude.{◌≡◌, ◌++◌, ◌||◌, ◌==◌, List, IfOk, OnOk, filter, map, not};
-ghost use Rattle.std.specs.List.{list_any};
-ghost use Rattle.kfs_model.specs.Tree.{without_place, moved, moved_place, all_put, below};
-ghost use Rattle.kfs_model.specs.Step.{swept, unlink, rename, rmdir_at, is_root, is_same_place};
+ghost use Rattle.std.specs.Prelude.{◌≡◌, ◌++◌, IfOk, OnOk, OnErr, filter, map, not};
+ghost use Rattle.std.specs.Ordering.{nat_cmp};
+ghost use Rattle.std.specs.BTreeSet.{contains};
+ghost use Rattle.kfs_model.specs.Tree.{moved, moved_place, all_put, below};
+ghost use Rattle.kfs_model.specs.Step.{swept, unlink, rename, rmdir_at, is_same_place};
 ghost use Rattle.kfs_plain.specs.Renaming.{rename_from, rename_to, judge_rename, rmdir};
 ghost use Rattle.kfs_plain.specs.Gives.{Does, Gives};
-ghost use Rattle.kfs_plain.specs.Tables.{tree_of, world_of, limits_of, route_of, IsKept};
+ghost use Rattle.kfs_plain.specs.Tables.{tree_of, world_of, limits_of, route_of, with_names, HasUsed, IsKept};
 
 use crate::fault::Fault;
 use crate::room::count_chunks;
 use crate::tables::Tables;
-use crate::walking::{
-    below, ends_in_dot, ends_in_dot_dot, ends_in_dots, is_dir, is_file, is_same_place, is_there,
-    isnt_empty, syntax, walk,
-};
-use kfs_model::{Description, Node};
+use crate::walking::{below, is_dir, is_file, is_same_place, is_there, isnt_empty, syntax, walk};
+use kfs_model::{Description, Node, ends_in_dot, ends_in_dot_dot, ends_in_dots, is_root};
 use kfs_path::{Errno, Memory, Names, Path, Reply, Text};
 use std::alloc::Global;
-use std::collections::BTreeMap;
+use std::collections::{BTreeMap, BTreeSet};
 
-/// Whether a place names the node.
-fn is_named(names: &BTreeMap<Names, u64>, node: u64) -> bool
-    ensures { result ≡ list_any (λ e. e.1 == node) names.now.entries }
-{
-    for (_, n) in names {
-        if *n == node {
-            return true;
-        }
-    }
-    false
-}
-
-/// Whether a description has the node.
-fn is_open(descriptions: &BTreeMap<u64, Description>, node: u64) -> bool
-    ensures { result ≡ list_any (λ e. e.1.node == node) descriptions.now.entries }
-{
-    for (_, it) in descriptions {
-        if it.node == node {
-            return true;
-        }
-    }
-    false
-}
-
-/// Drops each node that neither a place nor a description names.
-fn drop_nameless(
+/// The numbers of the nodes that places and descriptions have.
+pub fn used(
+    alloc: Global,
     names: &BTreeMap<Names, u64>,
     descriptions: &BTreeMap<u64, Description>,
-    nodes: &mut BTreeMap<u64, Node>,
-)
-    ensures { nodes.new.entries ≡ filter (λ e. list_any (λ f. f.1 == e.0) names.now.entries || list_any (λ f. f.1.node == e.0) descriptions.now.entries) nodes.old.entries }
+) -> Result<BTreeSet<u64>, Memory>
+    ensures { IfOk result (λ used. HasUsed used names.now.entries descriptions.now.entries) }
 {
-    nodes.retain(|n, _| is_named(names, *n) || is_open(descriptions, *n))
+    let mut used = BTreeSet::new(alloc);
+    for (_, n) in names {
+        used.insert(*n)?;
+    }
+    for (_, it) in descriptions {
+        used.insert(it.node)?;
+    }
+    Ok(used)
 }
 
-/// A node that neither a place nor a description names goes.
-pub fn sweep(t: &mut Tables)
-    requires { IsKept t.old }
+/// Keeps the nodes whose numbers are used.
+fn retain_used(nodes: &mut BTreeMap<u64, Node>, used: &BTreeSet<u64>)
+    ensures { nodes.new.entries ≡ filter (λ e. contains nat_cmp used.now e.0) nodes.old.entries }
+{
+    nodes.retain(|n, _| used.contains(n))
+}
+
+/// A node that neither a place nor a description names goes. The numbers that they have are given.
+pub fn sweep(t: &mut Tables, used: &BTreeSet<u64>)
+    requires kept { IsKept t.old }
+    requires used { HasUsed used.now t.old.files.names.entries t.old.desk.descriptions.entries }
     ensures kept { IsKept t.new }
     ensures limits { limits_of t.new ≡ limits_of t.old }
     ensures swept { world_of t.new ≡ swept (world_of t.old) }
 {
-    drop_nameless(&t.files.names, &t.desk.descriptions, &mut t.files.nodes);
+    retain_used(&mut t.files.nodes, used);
     t.files.chunks = count_chunks(&t.files.nodes);
 }
 
-/// Takes a place's name away.
-fn remove_place(names: &mut BTreeMap<Names, u64>, place: &Names)
-    ensures { names.new.entries ≡ filter (λ e. not (is_same_place place.now e.0)) names.old.entries }
+/// The same names.
+fn copy_of(names: &BTreeMap<Names, u64>) -> Result<BTreeMap<Names, u64>, Memory>
+    ensures { IfOk result (λ new. new.entries ≡ names.now.entries) }
 {
-    names.retain(|q, _| !is_same_place(place.items(), q.items()))
+    Ok(names.clone()?)
+}
+
+/// The names without a place.
+fn without(names: &BTreeMap<Names, u64>, place: &Names) -> Result<BTreeMap<Names, u64>, Memory>
+    ensures { IfOk result (λ left. left.entries ≡ filter (λ e. not (is_same_place place.now e.0)) names.now.entries) }
+{
+    let mut left = copy_of(names)?;
+    left.retain(|q, _| !is_same_place(place.items(), q.items()));
+    Ok(left)
+}
+
+/// Gives the tree other names, and drops the nodes that lost theirs and aren't open.
+fn set_names(alloc: Global, t: &mut Tables, names: BTreeMap<Names, u64>) -> Result<(), Memory>
+    requires { IsKept t.old }
+    ensures kept { IsKept t.new }
+    ensures limits { limits_of t.new ≡ limits_of t.old }
+    ensures ok { OnOk result (world_of t.new ≡ swept (with_names (world_of t.old) names.entries)) }
+    ensures err { OnErr result (world_of t.new ≡ world_of t.old) }
+{
+    let used = used(alloc, &names, &t.desk.descriptions)?;
+    t.files.names = names;
+    sweep(t, &used);
+    Ok(())
 }
 
 /// Takes a file's name away.
@@ -96,19 +108,9 @@ pub fn unlink(alloc: Global, t: &mut Tables, path: &[u8]) -> Result<Reply, Fault
     if route.trailing {
         return Err(Fault::No(Errno::ENOTDIR));
     }
-    remove_place(&mut t.files.names, &place);
-    sweep(t);
+    let names = without(&t.files.names, &place)?;
+    set_names(alloc, t, names)?;
     Ok(Reply::Done)
-}
-
-/// No piece: the path is slashes alone.
-fn is_root(pieces: &[Text]) -> bool
-    ensures { result ≡ is_root pieces.now }
-{
-    match pieces {
-        [] => true,
-        [_, ..] => false,
-    }
 }
 
 /// The directory that a path names, where it may be taken away.
@@ -146,8 +148,8 @@ pub fn rmdir(alloc: Global, t: &mut Tables, path: &[u8]) -> Result<Reply, Fault>
     ensures does { Does (world_of t.old) (world_of t.new) result (rmdir (world_of t.old) path.now) }
 {
     let place = rmdir_at(alloc, t, path)?;
-    remove_place(&mut t.files.names, &place);
-    sweep(t);
+    let names = without(&t.files.names, &place)?;
+    set_names(alloc, t, names)?;
     Ok(Reply::Done)
 }
 
@@ -205,13 +207,6 @@ fn all_put(alloc: Global, entries: Vec<(Names, u64)>) -> Result<BTreeMap<Names, 
     Ok(names)
 }
 
-/// The same names.
-fn copy_of(names: &BTreeMap<Names, u64>) -> Result<BTreeMap<Names, u64>, Memory>
-    ensures { IfOk result (λ new. new.entries ≡ names.now.entries) }
-{
-    Ok(names.clone()?)
-}
-
 /// The names after a rename.
 fn renamed(
     alloc: Global,
@@ -221,8 +216,7 @@ fn renamed(
 ) -> Result<BTreeMap<Names, u64>, Memory>
     ensures { IfOk result (λ after. after.entries ≡ all_put (map (moved old.now new.now) (filter (λ e. not (is_same_place new.now e.0)) names.now.entries))) }
 {
-    let mut left = copy_of(names)?;
-    remove_place(&mut left, new);
+    let left = without(names, new)?;
     all_put(alloc, moved_entries(alloc, &left, old, new)?)
 }
 
@@ -298,7 +292,7 @@ pub fn rename(alloc: Global, t: &mut Tables, old: &[u8], new: &[u8]) -> Result<R
         return Ok(Reply::Done);
     }
     judge_rename(t, &p, &q)?;
-    t.files.names = renamed(alloc, &t.files.names, &p, &q)?;
-    sweep(t);
+    let names = renamed(alloc, &t.files.names, &p, &q)?;
+    set_names(alloc, t, names)?;
     Ok(Reply::Done)
 }

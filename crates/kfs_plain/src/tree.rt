@@ -164,7 +164,7 @@ fn effect(alloc: Global, t: &mut Tables, call: &Call) -> Result<Reply, Fault>
 {
     match call {
         Call::Open { path, flags } => open_path(alloc, t, path.bytes(), *flags),
-        Call::Close { fd } => close(t, *fd),
+        Call::Close { fd } => close(alloc, t, *fd),
         Call::Dup { fd } => dup(t, *fd),
         Call::Read { fd, count } => read(alloc, t, *fd, *count),
         Call::Write { fd, bytes } => write(alloc, t, *fd, bytes),

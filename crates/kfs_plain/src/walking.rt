@@ -1,14 +1,14 @@
 //! Paths, places and what they name.
 ghost use Rattle.std.specs.Prelude.{◌≡◌, IfOk, OnOk};
 ghost use Rattle.std.specs.Option.{option_map};
-ghost use Rattle.kfs_model.specs.Tree.{entry_at, entered, walk, child, below, further, names_in, is_dot, is_dot_dot};
-ghost use Rattle.kfs_model.specs.Step.{syntax, is_there, is_dir, is_file, is_same_place, ends_by, ends_in_dots, isnt_empty};
+ghost use Rattle.kfs_model.specs.Tree.{entry_at, entered, walk, child, below, further, names_in};
+ghost use Rattle.kfs_model.specs.Step.{syntax, is_there, is_dir, is_file, is_same_place, isnt_empty};
 ghost use Rattle.kfs_plain.specs.Gives.{Gives};
 ghost use Rattle.kfs_plain.specs.Tables.{tree_of, route_of};
 
 use crate::fault::Fault;
 use crate::tables::Files;
-use kfs_model::Node;
+use kfs_model::{Node, is_dot, is_dot_dot};
 use kfs_path::{Errno, Memory, Names, Path, Text};
 use std::alloc::Global;
 
@@ -55,53 +55,6 @@ pub fn is_file(files: &Files, place: &Names) -> bool
         None => false,
         Some((_, Node::Dir)) => false,
         Some((_, Node::File(_))) => true,
-    }
-}
-
-/// Whether a name is `.`.
-pub fn is_dot(name: &Text) -> bool
-    ensures { result ≡ is_dot name.now }
-{
-    name.bytes() == b".".as_slice()
-}
-
-/// Whether a name is `..`.
-pub fn is_dot_dot(name: &Text) -> bool
-    ensures { result ≡ is_dot_dot name.now }
-{
-    name.bytes() == b"..".as_slice()
-}
-
-/// Whether the last piece is `.`.
-pub fn ends_in_dot(pieces: &[Text]) -> bool
-    ensures { result ≡ ends_by is_dot pieces.now }
-{
-    match pieces {
-        [] => false,
-        [piece] => is_dot(piece),
-        [_, rest @ ..] => ends_in_dot(rest),
-    }
-}
-
-/// Whether the last piece is `..`.
-pub fn ends_in_dot_dot(pieces: &[Text]) -> bool
-    ensures { result ≡ ends_by is_dot_dot pieces.now }
-{
-    match pieces {
-        [] => false,
-        [piece] => is_dot_dot(piece),
-        [_, rest @ ..] => ends_in_dot_dot(rest),
-    }
-}
-
-/// Whether the last piece is one of the two.
-pub fn ends_in_dots(pieces: &[Text]) -> bool
-    ensures { result ≡ ends_in_dots pieces.now }
-{
-    match pieces {
-        [] => false,
-        [piece] => is_dot(piece) || is_dot_dot(piece),
-        [_, rest @ ..] => ends_in_dots(rest),
     }
 }
 

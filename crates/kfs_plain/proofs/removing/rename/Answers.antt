@@ -4,7 +4,7 @@ use Rattle.kfs_model.specs.Tree.{Place, without_place, renamed}
 use Rattle.kfs_model.specs.Step.{rename, leaves_swept, swept, is_same_place}
 use Rattle.kfs_path.specs.declared.call.Reply.TheVariants as replies
 use Rattle.kfs_plain.specs.Renaming.{rename_from, rename_to, judge_rename}
-use Rattle.kfs_plain.specs.Tables.{world_of, desk_of, route_of}
+use Rattle.kfs_plain.specs.Tables.{world_of, route_of, with_names}
 use Rattle.kfs_plain.proofs.Fails.{does_passed}
 use Rattle.kfs_plain.proofs.Parts.{rename-read, rename-left, rename-placed, rename-same, rename-apart, rename-moves, rename_at}
 use Rattle.kfs_plain.proofs.removing.rename.Goals as goal
@@ -59,5 +59,5 @@ returns-clause-does c =
     let q = c.in_ok-q.q in
     let apart : is_same_place p q ≡ false = (λ i. is_same_place (sym c.items.ensures i) (sym c.items-2.ensures i)) ∙ sym c.if-is_same_place.ensures in
     let is = rename-placed w c.args.old.now c.args.new.now (route_of c.in_ok-from.from) (route_of c.in_ok-to.to) p q c.in_ok-from.ensures c.in_ok-to.ensures c.in_ok-p.ensures c.in_ok-q.ensures in
-    let named = ap (λ (names : List (Place × ℕ)). swept (record { tree = record { names = names; nodes = t.files.nodes.entries; next = t.files.next }; desk = desk_of t.desk })) (sym c.in_ok-t.ensures) in
-    is ∙ rename-moves w p q apart c.in_ok-judge_rename.ensures ∙ (λ i. Ok (record { world = (named ∙ sym c.sweep.ensures.swept) i; reply = replies.Done }))
+    let named = ap (λ (names : List (Place × ℕ)). swept (with_names w names)) (sym c.in_ok-names.ensures) in
+    is ∙ rename-moves w p q apart c.in_ok-judge_rename.ensures ∙ (λ i. Ok (record { world = (named ∙ sym c.in_ok-set_names.ensures.ok) i; reply = replies.Done }))

@@ -7,6 +7,5 @@ use Rattle.kfs_plain.proofs.removing.renamed.Goals as goal
 pub returns : goal.returns
 returns c =
     subst (λ (es : List (Place × ℕ)). IfOk c.all_put.result (λ after. after.entries ≡ all_put es))
-    (c.in_ok-moved_entries.ensures
-    ∙ ap (λ (es : List (Place × ℕ)). map (moved c.args.old.now c.args.new.now) es) (c.remove_place.ensures ∙ ap (λ (es : List (Place × ℕ)). filter (λ e. not (is_same_place c.args.new.now e.0)) es) c.in_ok-left.ensures))
+    (c.in_ok-moved_entries.ensures ∙ ap (λ (es : List (Place × ℕ)). map (moved c.args.old.now c.args.new.now) es) c.in_ok-left.ensures)
     c.all_put.ensures

@@ -1,17 +1,20 @@
-// What the last piece of a path is.
+//! What the last piece of a path is.
+
 ghost use Rattle.std.specs.Prelude.{◌≡◌};
 ghost use Rattle.kfs_model.specs.Tree.{is_dot, is_dot_dot};
 ghost use Rattle.kfs_model.specs.Step.{ends_by, ends_in_dots, is_root};
 
 use kv_base::Text;
 
-fn is_dot(piece: &Text) -> bool
+/// Whether a piece is `.`.
+pub fn is_dot(piece: &Text) -> bool
     ensures { result ≡ is_dot piece.now }
 {
     piece.bytes() == b".".as_slice()
 }
 
-fn is_dot_dot(piece: &Text) -> bool
+/// Whether a piece is `..`.
+pub fn is_dot_dot(piece: &Text) -> bool
     ensures { result ≡ is_dot_dot piece.now }
 {
     piece.bytes() == b"..".as_slice()

@@ -1,5 +1,5 @@
 use Rattle.std.proofs.Common.{length}
-use Rattle.kfs_plain.proofs.walking.+ends_in_dot.Given as goal
+use Rattle.kfs_model.proofs.endings.+ends_in_dot.Given as goal
 
 abbrev pub decreases-ends_in_dot : goal.decreases-ends_in_dot
 decreases-ends_in_dot l = length l.pieces.now

@@ -1,5 +1,5 @@
 use Rattle.std.proofs.Common.{length}
-use Rattle.kfs_plain.proofs.walking.+ends_in_dots.Given as goal
+use Rattle.kfs_model.proofs.endings.+ends_in_dots.Given as goal
 
 abbrev pub decreases-ends_in_dots : goal.decreases-ends_in_dots
 decreases-ends_in_dots l = length l.pieces.now

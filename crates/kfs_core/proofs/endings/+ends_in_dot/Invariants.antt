@@ -1,5 +1,0 @@
-use Rattle.std.proofs.Common.{length}
-use Rattle.kfs_core.proofs.endings.+ends_in_dot.Given as goal
-
-abbrev pub decreases-ends_in_dot : goal.decreases-ends_in_dot
-decreases-ends_in_dot l = length l.pieces.now
