@@ -1,12 +1,11 @@
 -- The causes of a setting's refusals and faults, and the ages after a change.
-use Rattle.std.proofs.Common.{◌≡◌, ◌≤◌, ◌+◌, ◌^◌, ℕ, max, inl, inr, Bool, true, false, not, cond, refl, sym, ap, subst, arith, List, length, Result, Ok, Err, IfErr, Option, Some, None, is_some, slice_get, option_and_then}
+use Rattle.std.proofs.Common.{◌≡◌, ◌≤◌, ◌+◌, ◌^◌, ℕ, inl, inr, Bool, true, false, not, cond, refl, sym, ap, subst, arith, List, Result, Ok, Err, IfErr, Option, Some, None, is_some, slice_get, option_and_then}
 use Rattle.kv_device.specs.declared.fault.DeviceFault.{DeviceFault}
 use Rattle.kv_device.specs.declared.fault.DeviceFault.TheVariants.{NoTx, Busy, TxFull, Full, BadSize, Off, Failed, Memory}
 use Rattle.kv_device.specs.Machine.{Machine, is_open}
-use Rattle.kv_device.specs.Calls.{first_of, set_refusal, set_ages, IsFault, Falls, SetFault, Ages, is_tx_full}
+use Rattle.kv_device.specs.Calls.{first_of, set_refusal, set_ages, IsFault, Falls, SetFault, Ages}
 use Rattle.kfs_objects.specs.Keys.{be64}
 use Rattle.kfs_objects.specs.Records.{super_value}
-use Rattle.kfs_objects.proofs.KeyLaws.{length_be64}
 use Rattle.kfs_tx.specs.Run.{RunState, Aged, is_alone, Caused}
 use Rattle.kfs_tx.proofs.Alone.{alone_is}
 
@@ -71,3 +70,7 @@ super_ages k n = refl
 -- the ages after a change: the super's is set, and the transaction ended
 pub change_ages : (old mid new : RunState) (next : ℕ) → Aged old mid 0 → Ages mid.device_age new.device_age (2 ^ 16) → new.run.changes ≡ old.run.changes + 1 → new.run.next ≡ next → old.run.next ≤ next → next ≤ old.run.next + 1 → Aged old new (2 ^ 16)
 change_ages old mid new next set ended changes is least most = record { device = record { later = omega arith; bounded = omega arith }; whole = record { later = omega arith; bounded = omega arith } }
+
+-- the ages after a super is set and the transaction's end fails
+pub failed_ages : (old mid new : RunState) → Aged old mid 0 → Aged mid new (2 ^ 16) → Aged old new (2 ^ 16)
+failed_ages old mid new set ended = record { device = record { later = omega arith; bounded = omega arith }; whole = record { later = omega arith; bounded = omega arith } }

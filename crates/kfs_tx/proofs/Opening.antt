@@ -1,13 +1,13 @@
 -- The first transaction of a device that has none open.
-use Rattle.std.proofs.Common.{◌≡◌, ℕ, true, false, Bool, not, cond, refl, sym, ◌∙◌, ap, subst, List, Option, Some, None, is_some, unwrap_or, option_and_then, slice_get, slice_set}
+use Rattle.std.proofs.Common.{◌≡◌, ℕ, true, not, cond, sym, ◌∙◌, ap, subst, List, Option, Some, None, is_some, unwrap_or, option_and_then, slice_get, slice_set}
 use Rattle.std.specs.FinMap as objects
 use Rattle.kv_device.specs.Bytes.{bytes_cmp}
 use Rattle.kv_device.specs.declared.fault.DeviceFault.{DeviceFault}
 use Rattle.kv_device.specs.declared.fault.DeviceFault.TheVariants.{NoTx, Busy, Off}
 use Rattle.kv_device.specs.Objects.{seen_through}
-use Rattle.kv_device.specs.Machine.{Machine, none_open, free_number, begun, aborted, view, changes_of, is_open}
+use Rattle.kv_device.specs.Machine.{Machine, none_open, free_number, begun, aborted, view, changes_of}
 use Rattle.kv_device.specs.Calls.{BeginDone, GetDone, AbortDone, BeginFault, AbortFault, ReadFault, IsFault, Never, begin_refusal, first_of}
-use Rattle.kfs_tx.specs.Run.{Run, IsReady, Fallen, is_alone, started, changed_keys}
+use Rattle.kfs_tx.specs.Run.{IsReady, Fallen, is_alone, started, changed_keys}
 use Rattle.kfs_tx.proofs.Seeing.{seen_nothing}
 use Rattle.kfs_tx.proofs.Falling.{read_falls}
 

@@ -1,5 +1,5 @@
 -- The states' codes, by which proofs tell them apart.
-use Rattle.std.specs.Prelude.{ℕ, Bool, List, Option, refl}
+use Rattle.std.specs.Prelude.{ℕ, Bool, refl}
 use Rattle.std.specs.Coded.{Coded, code_by, coded×, coded_ℕ, coded_bool, coded_list, coded_option}
 use Rattle.std.specs.FinMap as objects
 use Rattle.kv_device.specs.Objects.{Objects, Changes}

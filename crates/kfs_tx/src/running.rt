@@ -1,5 +1,6 @@
 // One transaction that is always open while the device is up. It is committed at each boundary.
-ghost use Rattle.std.specs.Prelude.{◌≡◌, ◌≤◌, ◌<◌, ◌+◌, ◌-◌, ◌^◌, min, true, false, None, IfOk, OnOk, IfErr, map, take};
+ghost use Rattle.std.specs.Prelude.{◌≡◌, ◌≤◌, ◌<◌, ◌+◌, ◌-◌, ◌^◌, true, false, None, IfOk, OnOk, OnErr, IfErr, map, take};
+ghost use Rattle.kv_base.specs.Counts.{one_more};
 ghost use Rattle.std.specs.FinMap as objects;
 ghost use Rattle.kv_device.specs.declared.fault.DeviceFault.TheVariants.{Off};
 ghost use Rattle.kv_device.specs.Machine.{none_open, with_most_cuts, with_most_faults};
@@ -85,6 +86,7 @@ impl<D: Device> Running<D> {
         ensures up { OnOk result (self.old.run.machine.up ≡ true) }
         ensures err { IfErr result (λ fault. ReadFault self.old.run.machine self.old.run.tx fault self.new.run.machine) }
         ensures cause { IfErr result (λ fault. CausedAlone self.old.run.machine fault self.new.run.machine) }
+        ensures kept { OnErr result (self.new.run ≡ record self.old.run { machine = self.new.run.machine }) }
         ensures age { Aged self.old self.new 0 }
     {
         self.device.get(alloc, self.tx, key)
@@ -98,6 +100,7 @@ impl<D: Device> Running<D> {
         ensures allowed { OnOk result (set_refusal self.old.run.machine self.old.run.tx key.now value.now ≡ None) }
         ensures err { IfErr result (λ fault. SetFault self.old.run.machine self.old.run.tx key.now value.now fault self.new.run.machine) }
         ensures cause { IfErr result (λ fault. Caused self.old.run.machine fault self.new.run.machine) }
+        ensures kept { OnErr result (self.new.run ≡ record self.old.run { machine = self.new.run.machine }) }
         ensures age { Aged self.old self.new (set_ages value.now) }
     {
         self.device.set(alloc, self.tx, key, value)
@@ -110,6 +113,7 @@ impl<D: Device> Running<D> {
         ensures allowed { OnOk result (delete_refusal self.old.run.machine self.old.run.tx key.now ≡ None) }
         ensures err { IfErr result (λ fault. DeleteFault self.old.run.machine self.old.run.tx key.now fault self.new.run.machine) }
         ensures cause { IfErr result (λ fault. Caused self.old.run.machine fault self.new.run.machine) }
+        ensures kept { OnErr result (self.new.run ≡ record self.old.run { machine = self.new.run.machine }) }
         ensures age { Aged self.old self.new 0 }
     {
         self.device.delete(alloc, self.tx, key)
@@ -129,6 +133,7 @@ impl<D: Device> Running<D> {
         ensures up { OnOk result (self.old.run.machine.up ≡ true) }
         ensures err { IfErr result (λ fault. ReadFault self.old.run.machine self.old.run.tx fault self.new.run.machine) }
         ensures cause { IfErr result (λ fault. CausedAlone self.old.run.machine fault self.new.run.machine) }
+        ensures kept { OnErr result (self.new.run ≡ record self.old.run { machine = self.new.run.machine }) }
         ensures age { Aged self.old self.new 0 }
     {
         self.device.iterate(alloc, self.tx, from, prefix, at_most)
@@ -142,6 +147,7 @@ impl<D: Device> Running<D> {
         ensures up { OnOk result (self.old.run.machine.up ≡ true) }
         ensures err { IfErr result (λ fault. CommitFault self.old.run fault self.new.run.machine) }
         ensures cause { IfErr result (λ fault. Caused self.old.run.machine fault self.new.run.machine) }
+        ensures kept { OnErr result (self.new.run ≡ record self.old.run { machine = self.new.run.machine }) }
         ensures age { Aged self.old self.new (2 ^ 16) }
     {
         self.renew(alloc)
@@ -157,6 +163,7 @@ impl<D: Device> Running<D> {
         ensures cause { IfErr result (λ fault. Caused self.old.run.machine fault self.new.run.machine) }
         ensures changes { self.new.run.changes ≡ self.old.run.changes }
         ensures next { self.new.run.next ≡ self.old.run.next }
+        ensures kept { OnErr result (self.new.run ≡ record self.old.run { machine = self.new.run.machine }) }
         ensures age { Aged self.old self.new (2 ^ 16) }
     {
         self.device.end(alloc, self.tx)?;
@@ -175,6 +182,7 @@ impl<D: Device> Running<D> {
         ensures allowed { OnOk result (IsAllowed self.old.run weight next) }
         ensures err { IfErr result (λ fault. ChangeFault self.old.run weight next fault self.new.run.machine) }
         ensures cause { IfErr result (λ fault. Caused self.old.run.machine fault self.new.run.machine) }
+        ensures kept { OnErr result (self.new.run ≡ record self.old.run { machine = self.new.run.machine }) }
         ensures age { Aged self.old self.new (2 ^ 16) }
     {
         let head = Super {
@@ -184,13 +192,14 @@ impl<D: Device> Running<D> {
         let key = super_key(alloc)?;
         let value = head.write(alloc)?;
         self.set(alloc, &key, &value)?;
-        self.head = head;
         let since = self.since + 1;
         let weight = self.weight as u64 + weight as u64;
         if is_full(since, weight) {
             self.renew(alloc)?;
+            self.head = head;
             return Ok(true);
         }
+        self.head = head;
         self.since = since;
         self.weight = weight as u32;
         Ok(false)
@@ -203,6 +212,7 @@ impl<D: Device> Running<D> {
         ensures up { OnOk result (self.old.run.machine.up ≡ true) }
         ensures err { IfErr result (λ fault. WorkFault self.old.run.machine fault self.new.run.machine) }
         ensures cause { IfErr result (λ fault. CausedAlone self.old.run.machine fault self.new.run.machine) }
+        ensures kept { OnErr result (self.new.run ≡ record self.old.run { machine = self.new.run.machine }) }
         ensures age { Aged self.old self.new (2 ^ 20) }
     {
         self.device.work(alloc, operations)
@@ -258,7 +268,7 @@ impl<D: PlannedDevice> Running<D> {
         requires kind { kind ≤ 2 }
         ensures planned { self.new.run ≡ record self.old.run { machine = with_most_faults self.old.run.machine self.new.run.machine.most_faults } }
         ensures fewest { self.old.run.machine.faults ≤ self.new.run.machine.most_faults }
-        ensures most { self.new.run.machine.most_faults ≤ min (self.old.run.machine.faults + 1) (2 ^ 64 - 1) }
+        ensures most { self.new.run.machine.most_faults ≤ one_more self.old.run.machine.faults }
         ensures age { self.new.device_age ≡ self.old.device_age }
     {
         self.device.plan_fail(kind, n);
