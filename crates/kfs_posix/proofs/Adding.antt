@@ -14,7 +14,7 @@ use Rattle.kfs_path.specs.declared.call.Reply.TheVariants as replies
 use Rattle.kfs_model.specs.declared.Node.{Node}
 use Rattle.kfs_model.specs.declared.Line.TheVariants as lines
 use Rattle.kfs_model.specs.declared.Answer.TheVariants as answers
-use Rattle.kfs_model.specs.Tree.{Place, Tree, charge, chunks, chunks_of, with_new, has_room}
+use Rattle.kfs_model.specs.Tree.{Place, Tree, charge, chunks, chunks_of, with_new}
 use Rattle.kfs_model.specs.Step.{World, After, step}
 use Rattle.kfs_model.specs.Change.{weight, is_boundary}
 use Rattle.kfs_model.specs.Life.{Live, can_fail}
@@ -73,13 +73,13 @@ module _ (old : Book) (kind : ℕ) (node : Node) (fresh : IsFresh node) (value_i
   planned_at fits live sh q free =
       let t = live.world.tree in
       let stands = stands_of old live sh in
-      let charge_is = new_charge old.run kind (parent_of w) w.name sh.ready t stands sh.next q free node fresh value_is none in
-      let chunks_is = new_chunks old.run kind (parent_of w) w.name sh.ready t stands sh.next q free node fresh value_is none in
+      let charge_is = new_charge old.run kind (parent_of w) w.name sh.light.ready t stands sh.next q free node fresh value_is none in
+      let chunks_is = new_chunks old.run kind (parent_of w) w.name sh.light.ready t stands sh.next q free node fresh value_is none in
       record {
         put = record {
-          ready = entry_ready old.run kind (parent_of w) w.name sh.ready;
-          tree = new_is_tree old.run kind (parent_of w) w.name sh.ready t stands sh.next q free node fresh value_is none;
-          shows = new_shows old.run kind (parent_of w) w.name sh.ready t stands sh.next q free node fresh value_is none;
+          ready = entry_ready old.run kind (parent_of w) w.name sh.light.ready;
+          tree = new_is_tree old.run kind (parent_of w) w.name sh.light.ready t stands sh.next q free node fresh value_is none;
+          shows = new_shows old.run kind (parent_of w) w.name sh.light.ready t stands sh.next q free node fresh value_is none;
           low = let h = sh.next in omega arith;
           few_changes = count;
           next_is = ap (λ n. n + 1) sh.next;
@@ -88,7 +88,7 @@ module _ (old : Book) (kind : ℕ) (node : Node) (fresh : IsFresh node) (value_i
           weight = refl;
           stable = refl;
           bounds = record { most_cuts = refl; most_faults = refl; room_keys = refl; room_pages = refl };
-          few = let a = entry_keys old.run kind (parent_of w) w.name sh.ready in let c = sh.few in omega arith;
+          few = let a = entry_keys old.run kind (parent_of w) w.name sh.light.ready in let c = sh.light.few in omega arith;
           room =
               let h = both_true (nat_le (charge t) old.keys) (nat_le (chunks t) old.pages) sh.room in
               let c = sh.charged in
@@ -125,11 +125,11 @@ module _ (old : Book) (kind : ℕ) (node : Node) (fresh : IsFresh node) (value_i
       before live sh a = record { stands = old.run.machine.stable; fallen = a; stood = as_before sh.saved; can = λ cause e. can live.world cause }
 
       fell : (live : Live) → ShowsLive old live → Adds old node call reply files (spare old) w live → AddFault old.run kind (parent_of w) w.name fault new.run.machine → Fell old new live call fault
-      fell live sh adds (inl a) = before live sh (put_falls old.run (inode_key old.run.next) (inode_value kind 0) fault new.run.machine sh.ready (let f = sh.few in let l = sh.light in omega arith) (small_inode kind (inode_key old.run.next)) a)
+      fell live sh adds (inl a) = before live sh (put_falls old.run (inode_key old.run.next) (inode_value kind 0) fault new.run.machine sh.light.ready (let f = sh.light.few in let l = sh.light.light in omega arith) (small_inode kind (inode_key old.run.next)) a)
       fell live sh adds (inr (inl a)) =
-          let ready1 = ready_put old.run (inode_key old.run.next) (inode_value kind 0) sh.ready in
-          let few1 = keys_put old.run (inode_key old.run.next) (inode_value kind 0) sh.ready in
-          let f = put_falls (with_inode old.run kind) (entry_key (parent_of w) w.name) (entry_value old.run.next) fault new.run.machine ready1 (let f = sh.few in let l = sh.light in omega arith) (small_value old.run.next (entry_key (parent_of w) w.name)) a in
+          let ready1 = ready_put old.run (inode_key old.run.next) (inode_value kind 0) sh.light.ready in
+          let few1 = keys_put old.run (inode_key old.run.next) (inode_value kind 0) sh.light.ready in
+          let f = put_falls (with_inode old.run kind) (entry_key (parent_of w) w.name) (entry_value old.run.next) fault new.run.machine ready1 (let f = sh.light.few in let l = sh.light.light in omega arith) (small_value old.run.next (entry_key (parent_of w) w.name)) a in
           before live sh (record { cause = f.cause; stable = f.stable; bounds = record { most_cuts = f.bounds.most_cuts; most_faults = f.bounds.most_faults; room_keys = f.bounds.room_keys; room_pages = f.bounds.room_pages } })
       fell live sh adds (inr (inr a)) =
           let plan = planned call reply files (spare old) live sh adds in
@@ -138,7 +138,7 @@ module _ (old : Book) (kind : ℕ) (node : Node) (fresh : IsFresh node) (value_i
           let shows = sees old live sh r tree 4 (old.run.next + 1) (old.charge + 2) old.chunks put plan.charged plan.chunked files adds.holds in
           let saved = to_save old live sh r tree 4 (old.run.next + 1) (old.charge + 2) old.chunks put plan.charged plan.chunked files adds.holds in
           let room = room_for (seen (with_super r (old.run.next + 1))) tree (live.past.count + 1) (limits_of old) r.machine put.tree shows (let h = put.low in omega arith) put.room sh.keys sh.pages in
-          elim (change_falls r 4 (old.run.next + 1) fault new.run.machine put.ready (let f = put.few in let l = sh.light in omega arith) room a) [
+          elim (change_falls r 4 (old.run.next + 1) fault new.run.machine put.ready (let f = put.few in let l = sh.light.light in omega arith) room a) [
             | inl f ↦ before live sh (record { cause = f.cause; stable = f.stable; bounds = record { most_cuts = f.bounds.most_cuts; most_faults = f.bounds.most_faults; room_keys = f.bounds.room_keys; room_pages = f.bounds.room_pages } })
             | inr x ↦
                 let f = x.1 in

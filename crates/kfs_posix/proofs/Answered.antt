@@ -1,6 +1,5 @@
 -- Each call of a session, by what the tree's call did.
-use Rattle.kfs_path.specs.declared.call.Data.{Data}
-use Rattle.std.proofs.Common.{◌≡◌, ◌≢◌, ℕ, ◌<◌, ◌≤◌, ◌+◌, ◌-◌, ◌^◌, ◌==◌, inl, inr, true, false, cond, refl, sym, ◌∙◌, ap, subst, arith, List, ℤ, Option, Some, None, is_some, Result, Ok, Err, not, Bool}
+use Rattle.std.proofs.Common.{◌≡◌, ◌≢◌, ℕ, ◌<◌, ◌≤◌, ◌+◌, ◌-◌, ◌^◌, ◌==◌, inl, inr, true, false, cond, refl, sym, ◌∙◌, ap, subst, arith, List, Option, Some, None, is_some, Result, Ok, Err}
 use Rattle.kfs_path.specs.declared.call.Call.{Call}
 use Rattle.kfs_path.specs.declared.call.Call.TheVariants as calls
 use Rattle.kfs_path.specs.declared.call.Reply.{Reply}
@@ -13,8 +12,6 @@ use Rattle.kfs_model.specs.Desk.{opened}
 use Rattle.kfs_model.specs.Step.{settled, step, or_else, answers as answered_by}
 use Rattle.kfs_model.specs.Life.{Live}
 use Rattle.kfs_path.specs.declared.call.Cause.{Cause}
-use Rattle.kfs_path.specs.declared.call.Flags.{Flags}
-use Rattle.kfs_path.specs.declared.call.Whence.{Whence}
 use Rattle.kfs_model.specs.declared.Line.TheVariants as lines
 use Rattle.kfs_model.specs.declared.Answer.TheVariants as answers
 use Rattle.kfs_model.specs.Ladder.{◌>>=◌}

@@ -25,12 +25,13 @@ use Rattle.kfs_model.specs.Life.{Live, live_after, live_with, can_fail}
 use Rattle.kfs_shows.specs.Shows.{Shows}
 use Rattle.kfs_shows.proofs.Counting.{few_objects, few_pages}
 use Rattle.kfs_tx.specs.Run.{Run, IsReady, GetFault, CommitFault, seen, committed}
-use Rattle.kfs_tx.proofs.Seeing.{ready_committed, seen_committed, keys_committed}
+use Rattle.kfs_tx.proofs.Seeing.{seen_committed}
 use Rattle.kfs_tx.proofs.Falling.{get_falls, get_not_off, commit_falls}
 use Rattle.kfs_core.specs.Flat.{stat_in, list_in}
 use Rattle.kfs_core.specs.Stands.{Stands}
 use Rattle.kfs_core.proofs.Judges.{stat_same}
 use Rattle.kfs_core.proofs.Children.{list_same}
+use Rattle.kfs_core.proofs.Small.{commit_small}
 use Rattle.kfs_posix.specs.Book.{Book, limits_of, cause_of}
 use Rattle.kfs_posix.specs.Showing.{ShowsLive, IsSaved, GoesOn}
 use Rattle.kfs_posix.proofs.Going.{spare, spare_free, as_before, as_synced, idle_goes, fall_goes, up_goes, answered}
@@ -68,9 +69,9 @@ pub read_falls : (old new : Book) (call : Call) (fault : DeviceFault) → ((w : 
     → GoesOn old (lines.Call call) (answers.Reply (replies.Down (cause_of fault))) new
 read_falls old new call fault eio nomem up down same h = fall_goes old new call fault up down same (λ live sh. record {
   stands = old.run.machine.stable;
-  fallen = get_falls old.run fault new.run.machine sh.ready h;
+  fallen = get_falls old.run fault new.run.machine sh.light.ready h;
   stood = as_before sh.saved;
-  can = can_read live.world call old.run fault new.run.machine sh.ready h (eio live.world) (nomem live.world);
+  can = can_read live.world call old.run fault new.run.machine sh.light.ready h (eio live.world) (nomem live.world);
 })
 
 -- what the transaction sees may be saved
@@ -90,11 +91,10 @@ commit_goes old call up none does did = up_goes old (record old { run = committe
     ∙ ap (λ (f : Bool). live_with live live.world None f) does in
     answered old (record old { run = committed old.run }) s live call replies.Done (spare old) (spare_free old) showing sh (sym (ap (λ (a : After). a.reply) is)) (subst (ShowsLive (record old { run = committed old.run })) (sym same) (record {
       up = sh.up;
-      ready = ready_committed old.run sh.ready;
       tree = sh.tree;
       low = sh.low;
       few_changes = sh.few_changes;
-      sees = subst (λ m. Shows m live.world.tree live.past.count) (sym (seen_committed old.run sh.ready)) sh.sees;
+      sees = subst (λ m. Shows m live.world.tree live.past.count) (sym (seen_committed old.run sh.light.ready)) sh.sees;
       saved = subst (λ t. IsSaved (limits_of old) (seen old.run) t live.past.count) (sym sh.newest) (live_saved old live sh);
       newest = sh.newest;
       behind = omega arith;
@@ -104,8 +104,7 @@ commit_goes old call up none does did = up_goes old (record old { run = committe
       next = sh.next;
       changes = refl;
       weight = refl;
-      light = omega arith;
-      few = let h = keys_committed old.run sh.ready in omega arith;
+      light = (commit_small old.run sh.light).1;
       keys = sh.keys;
       pages = sh.pages;
       charged = sh.charged;
@@ -142,7 +141,7 @@ pub unread_falls : (old new : Book) (call : Call) (fault : DeviceFault) → ((w 
     → GoesOn old (lines.Call call) (answers.Reply (replies.Down (cause_of fault))) new
 unread_falls old new call fault can up down same h = fall_goes old new call fault up down same (λ live sh. record {
   stands = old.run.machine.stable;
-  fallen = get_falls old.run fault new.run.machine sh.ready h;
+  fallen = get_falls old.run fault new.run.machine sh.light.ready h;
   stood = as_before sh.saved;
   can = λ cause e. can live.world cause;
 })
@@ -153,7 +152,7 @@ pub commit_falls_in : (old new : Book) (call : Call) (fault : DeviceFault) → o
     → CommitFault old.run fault new.run.machine → GoesOn old (lines.Call call) (answers.Reply (replies.Down (cause_of fault))) new
 commit_falls_in old new call fault up down same none does can did h = fall_goes old new call fault up down same (λ live sh.
     let is = did live sh in
-    elim (commit_falls old.run fault new.run.machine sh.ready (room_for (seen old.run) live.world.tree live.past.count (limits_of old) old.run.machine sh.tree sh.sees (let h = sh.low in omega arith) sh.room sh.keys sh.pages) h) [
+    elim (commit_falls old.run fault new.run.machine sh.light.ready (room_for (seen old.run) live.world.tree live.past.count (limits_of old) old.run.machine sh.tree sh.sees (let h = sh.low in omega arith) sh.room sh.keys sh.pages) h) [
       | inl a ↦ record { stands = old.run.machine.stable; fallen = a; stood = as_before sh.saved; can = λ cause e. can live.world cause }
       | inr a ↦ record {
         stands = seen old.run;

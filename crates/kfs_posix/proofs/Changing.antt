@@ -64,7 +64,6 @@ module _ (b : Book) (live : Live) (sh : ShowsLive b live) (r : Run) (t : Tree) (
   between : is_full (r.since + 1) (r.weight + n) ≡ false → ShowsLive (record b { run = done; charge = charged; chunks = chunked; files = files }) (live_with live world (Some n) false)
   between e = record {
     up = sh.up;
-    ready = ready;
     tree = put.tree;
     low = put.low;
     few_changes = let e = count_is in let h = put.few_changes in omega arith;
@@ -78,8 +77,11 @@ module _ (b : Book) (live : Live) (sh : ShowsLive b live) (r : Run) (t : Tree) (
     next = put.next_is;
     changes = ap (λ k. k + 1) (put.since ∙ sh.changes);
     weight = ap (λ k. k + n) (put.weight ∙ sh.weight);
-    light = let h = (or_false (nat_le 64 (r.since + 1)) (nat_le 256 (r.weight + n)) e).1 in grind (arith, nat_tests);
-    few = let a = few_keys in let c = put.few in let w = put.weight in omega arith;
+    light = record {
+      ready = ready;
+      light = let h = (or_false (nat_le 64 (r.since + 1)) (nat_le 256 (r.weight + n)) e).1 in grind (arith, nat_tests);
+      few = let a = few_keys in let c = put.few in let w = put.weight in omega arith;
+    };
     keys = sh.keys ∙ sym put.bounds.room_keys;
     pages = sh.pages ∙ sym put.bounds.room_pages;
     charged = charge_is;
@@ -90,7 +92,6 @@ module _ (b : Book) (live : Live) (sh : ShowsLive b live) (r : Run) (t : Tree) (
   at_boundary : ShowsLive (record b { run = committed done; charge = charged; chunks = chunked; files = files }) (live_with live world (Some n) true)
   at_boundary = record {
     up = sh.up;
-    ready = ready_committed done ready;
     tree = put.tree;
     low = put.low;
     few_changes = let e = count_is in let h = put.few_changes in omega arith;
@@ -104,8 +105,7 @@ module _ (b : Book) (live : Live) (sh : ShowsLive b live) (r : Run) (t : Tree) (
     next = put.next_is;
     changes = refl;
     weight = refl;
-    light = omega arith;
-    few = let h = keys_committed done ready in omega arith;
+    light = record { ready = ready_committed done ready; light = omega arith; few = let h = keys_committed done ready in omega arith };
     keys = sh.keys ∙ sym put.bounds.room_keys;
     pages = sh.pages ∙ sym put.bounds.room_pages;
     charged = charge_is;

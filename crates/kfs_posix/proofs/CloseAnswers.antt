@@ -1,7 +1,6 @@
 -- `close` of a session, by what it did.
-use Rattle.std.proofs.Common.{◌≡◌, ℕ, ◌<◌, ◌+◌, ◌-◌, ◌^◌, ◌||◌, inl, inr, true, false, Bool, refl, sym, ◌∙◌, ap, subst, Option, Some, None, Err}
+use Rattle.std.proofs.Common.{◌≡◌, ℕ, ◌<◌, ◌+◌, ◌-◌, ◌^◌, inl, inr, true, false, Bool, refl, sym, ◌∙◌, ap, subst, Option, None, Err}
 use Rattle.kv_device.specs.Machine.{Machine}
-use Rattle.kv_device.specs.declared.fault.DeviceFault.{DeviceFault}
 use Rattle.kfs_objects.specs.Keys.{orphan_key}
 use Rattle.kfs_path.specs.declared.call.Call.{Call}
 use Rattle.kfs_path.specs.declared.call.Call.TheVariants as calls
@@ -16,11 +15,10 @@ use Rattle.kfs_core.specs.declared.fault.CoreFault.{CoreFault}
 use Rattle.kfs_core.specs.declared.fault.CoreFault.TheVariants.{No, Device}
 use Rattle.kfs_core.specs.Core.{KfsState, run_in}
 use Rattle.kfs_core.specs.Flat.{inode_in}
-use Rattle.kfs_core.specs.Removing.{chunks_for, release_at, Released, ReleaseFails}
-use Rattle.kfs_posix.specs.declared.open_files.OpenFile.{OpenFile}
-use Rattle.kfs_posix.specs.Opens.{Opens, open_at, closed}
-use Rattle.kfs_posix.specs.Closing.{remains, Closes, Closed, NotOpen, NotReleased, CloseDoes}
-use Rattle.kfs_posix.specs.Book.{Book, SessionState, state_of, book_of, running_in, limits_of, cause_of}
+use Rattle.kfs_core.specs.Removing.{chunks_for, release_at, ReleaseFails}
+use Rattle.kfs_posix.specs.Opens.{Opens, closed}
+use Rattle.kfs_posix.specs.Closing.{remains, Closes, Closed, NotReleased, CloseDoes}
+use Rattle.kfs_posix.specs.Book.{Book, SessionState, state_of, book_of, running_in, limits_of}
 use Rattle.kfs_posix.specs.Answering.{Counts, KeepsCause, refusal, down_after}
 use Rattle.kfs_posix.specs.Showing.{GoesOn}
 use Rattle.kfs_posix.proofs.Fault.{caused_counts, alone_caused, refused_keeps}

@@ -1,5 +1,5 @@
 -- `close` of a session as an event of a life.
-use Rattle.std.proofs.Common.{◌≡◌, ◌≢◌, ℕ, ◌<◌, ◌≤◌, ◌+◌, ◌-◌, ◌^◌, ◌==◌, ◌||◌, ◌⊎◌, inl, inr, true, false, cond, not, Bool, refl, sym, ◌∙◌, ap, subst, arith, List, [], ◌∷◌, filter, length, T, Option, Some, None, Result, Ok, Err, nat_lt}
+use Rattle.std.proofs.Common.{◌≡◌, ◌≢◌, ℕ, ◌<◌, ◌≤◌, ◌+◌, ◌-◌, ◌^◌, ◌==◌, ◌||◌, inl, inr, true, false, cond, not, Bool, refl, sym, ◌∙◌, ap, subst, arith, List, [], ◌∷◌, filter, length, T, Option, Some, None, Ok, Err, nat_lt}
 use Rattle.std.specs.Ordering.{nat_cmp}
 use Rattle.std.specs.List.{list_any}
 use Rattle.std.specs.Option.{option_map, option_map_or}
@@ -25,7 +25,7 @@ use Rattle.kfs_model.specs.declared.Node.{Node}
 use Rattle.kfs_model.specs.declared.Node.TheVariants.{Dir, File}
 use Rattle.kfs_model.specs.Tree.{Tree, Limits, IsTree, node_of, is_named}
 use Rattle.kfs_model.specs.Desk.{Desk, is_open, opened}
-use Rattle.kfs_model.specs.Step.{World, After, step, settled, swept, close}
+use Rattle.kfs_model.specs.Step.{World, After, step, settled, swept}
 use Rattle.kfs_model.specs.Change.{weight, gone}
 use Rattle.kfs_model.specs.Life.{Live, can_fail, stays_here}
 use Rattle.kfs_laws.specs.Worlds.{IsDesk}
@@ -40,7 +40,7 @@ use Rattle.kfs_core.proofs.Ways.{kind_of}
 use Rattle.kfs_core.proofs.Pieces.{ok_is}
 use Rattle.kfs_core.proofs.Dropped.{follows_deleted, goes_follows}
 use Rattle.kfs_core.proofs.CuttingJudges.{release_finds}
-use Rattle.kfs_core.proofs.Plans.{Plan, release_plan}
+use Rattle.kfs_core.proofs.Plans.{release_plan}
 use Rattle.kfs_posix.specs.declared.open_files.OpenFile.{OpenFile}
 use Rattle.kfs_posix.specs.Opens.{Opens, desk_of, open_at, closed, without, is_held}
 use Rattle.kfs_posix.specs.Closing.{remains}
@@ -53,7 +53,7 @@ use Rattle.kfs_posix.proofs.Held.{world_in, description, described, opened_same,
 use Rattle.kfs_posix.proofs.Going.{spare, spare_free, turn_goes, up_goes}
 use Rattle.kfs_posix.proofs.Calls.{stands_of}
 use Rattle.kfs_posix.proofs.Planned.{Planned, world_shown, planned_goes, planned_falls, early_falls, unread_at, change_caused}
-use Rattle.kfs_posix.proofs.Unnaming.{both_of, below_none, some_any, open_is, swept_kept, swept_knows}
+use Rattle.kfs_posix.proofs.Unnaming.{both_of, below_none, open_is, swept_kept, swept_knows}
 
 -- an entry that passes a test is found
 any_find : {X : Type 0} (p : X → Bool) (es : List (ℕ × X)) → T (is_sorted nat_cmp es) → list_any (λ e. p e.1) es ≡ true → (d : ℕ) × (x : X) × (find nat_cmp d es ≡ Some x) × (p x ≡ true)
@@ -206,7 +206,7 @@ module _ (old : Book) (fd : ℕ) (up : old.down ≡ None) where
           let n = it.1.it.node in
           let known = knows t o fd it sh.holds has in
           let steps : (d : ℕ) → step (limits_of old) d live.world call ≡ record { world = swept (world_in t (closed o fd it.0)); reply = replies.Done } = λ d. desk_step live sh d ∙ close_steps t o fd it sh.holds has (limits_of old) d in
-          let plan = release_plan old.run sh.ready (limits_of old) live.world (world_shown old live sh) (let h = sh.low in omega arith) sh.room old.charge old.chunks sh.charged sh.chunked fd (desk_of (closed o fd it.0)) steps n known.node known.there
+          let plan = release_plan old.run sh.light.ready (limits_of old) live.world (world_shown old live sh) (let h = sh.low in omega arith) sh.room old.charge old.chunks sh.charged sh.chunked fd (desk_of (closed o fd it.0)) steps n known.node known.there
           (test_nameless t n (sym known.named ∙ no_name))
           (λ k node apart there none. others_open t o fd it sh.holds has k apart (sh.holds.kept k node there (nameless_test t sh.tree k none))) shut size judged mid goes in
           let tree_is : (swept (world_in t (closed o fd it.0))).tree ≡ plan.world.tree = ap (λ (a : After). a.world.tree) (sym (steps 0) ∙ plan.steps 0) in

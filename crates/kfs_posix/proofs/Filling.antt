@@ -1,13 +1,11 @@
 -- A write of one byte so many times is the write of those bytes.
-use Rattle.std.proofs.Common.{◌≡◌, ℕ, ◌<◌, ◌≤◌, ◌+◌, ◌&&◌, ◌⊎◌, inl, inr, true, false, cond, not, min, Bool, refl, sym, ◌∙◌, ap, subst, arith, List, length, replicate, Option, Some, None, Result, Ok, Err, nat_lt, ℤ}
+use Rattle.std.proofs.Common.{◌≡◌, ℕ, ◌<◌, ◌&&◌, ◌⊎◌, inl, inr, true, false, not, min, refl, sym, ◌∙◌, ap, subst, arith, List, length, replicate, Err, nat_lt, ℤ}
 use Rattle.std.proofs.lemmas.Bool.Decides.{nat_tests}
 use Rattle.std.proofs.lemmas.Bool.{cases_lt}
 use Rattle.std.proofs.lemmas.List.{length-replicate}
-use Rattle.kfs_path.specs.declared.call.Call.{Call}
 use Rattle.kfs_path.specs.declared.call.Call.TheVariants as calls
 use Rattle.kfs_path.specs.declared.call.Data.{Data}
 use Rattle.kfs_path.specs.declared.call.Data.TheVariants.{Plain, Fill}
-use Rattle.kfs_path.specs.declared.call.Errno.{Errno}
 use Rattle.kfs_path.specs.declared.call.Errno.TheVariants.{EBADF, EINVAL}
 use Rattle.kfs_path.specs.declared.call.Cause.{Cause}
 use Rattle.kfs_path.specs.declared.call.Reply.{Reply}
@@ -19,10 +17,10 @@ use Rattle.kfs_model.specs.declared.Answer.TheVariants as answers
 use Rattle.kfs_model.specs.Ladder.{◌>>=◌, ◌>>◌, ◌when◌}
 use Rattle.kfs_model.specs.Tree.{Limits}
 use Rattle.kfs_model.specs.Desk.{opened}
-use Rattle.kfs_model.specs.Step.{World, After, settled, step, effect, or_else, writes, bytes_of, greatest_count, is_negative, natural, leaves}
-use Rattle.kfs_model.specs.Life.{State, Now, Up, Down, Live, IsFree, IsDone, Falls, EventAt, with_now, live_after, is_armed, disarmed, fallen, can_fail}
+use Rattle.kfs_model.specs.Step.{World, After, settled, step, or_else, writes, bytes_of, greatest_count, is_negative, natural, leaves}
+use Rattle.kfs_model.specs.Life.{State, Now, Up, Down, EventAt, with_now, live_after, is_armed, disarmed, fallen, can_fail}
 use Rattle.kfs_posix.specs.Book.{Book, limits_of}
-use Rattle.kfs_posix.specs.Showing.{ShowsState, GoesOn}
+use Rattle.kfs_posix.specs.Showing.{GoesOn}
 
 -- ---- writes of too many bytes are refused alike
 

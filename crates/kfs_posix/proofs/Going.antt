@@ -1,9 +1,10 @@
 -- Answered calls, and calls in which the session goes down, as events of a life.
-use Rattle.std.proofs.Common.{◌≡◌, ℕ, suc, List, min, ◌<◌, ◌≤◌, ◌+◌, ◌-◌, ◌^◌, ◌&&◌, ◌⊎◌, inl, inr, true, false, cond, Bool, refl, sym, ◌∙◌, ap, subst, arith, [], ◌∷◌, Option, Some, None, is_some}
+use Rattle.std.proofs.Common.{◌≡◌, ℕ, suc, List, ◌<◌, ◌≤◌, ◌+◌, ◌^◌, ◌&&◌, inl, inr, true, false, cond, Bool, refl, sym, ◌∙◌, ap, subst, arith, [], ◌∷◌, Option, Some, None, is_some}
 use Rattle.std.specs.Ordering.{nat_cmp}
 use Rattle.std.specs.Option.{option_map}
 use Rattle.std.specs.FinMap.{find}
 use Rattle.std.specs.Prelude.{IsTrue}
+use Rattle.kv_base.specs.Counts.{one_more}
 use Rattle.kv_device.specs.declared.fault.DeviceFault.{DeviceFault}
 use Rattle.kv_device.specs.declared.fault.DeviceFault.TheVariants.{NoTx, Busy, TxFull, Full, BadSize, Off, Failed, Memory}
 use Rattle.kv_device.specs.Objects.{Objects}
@@ -133,7 +134,6 @@ turn_goes old files call reply d none up quiet did = up_goes old (record old { f
     ∙ ap (λ (f : Bool). live_with live w None f) quiet in
     answered old (record old { files = files }) s live call reply d none showing sh (sym (ap (λ (a : After). a.reply) it.0)) (subst (ShowsLive (record old { files = files })) (sym same) (record {
       up = sh.up;
-      ready = sh.ready;
       tree = sh.tree;
       low = sh.low;
       few_changes = sh.few_changes;
@@ -148,7 +148,6 @@ turn_goes old files call reply d none up quiet did = up_goes old (record old { f
       changes = sh.changes;
       weight = sh.weight;
       light = sh.light;
-      few = sh.few;
       keys = sh.keys;
       pages = sh.pages;
       charged = sh.charged;
@@ -205,7 +204,7 @@ stood_down new live call after cause stands down is behind keys pages (as_synced
       pages = pages;
     }))
 
-rose : (old new most : ℕ) (armed : Bool) → most ≤ old + one_if armed → old ≤ most → most < 2 ^ 63 → (new ≤ most) × (min (old + 1) (2 ^ 64 - 1) ≤ new) → (armed ≡ true) × (most ≤ new)
+rose : (old new most : ℕ) (armed : Bool) → most ≤ old + one_if armed → old ≤ most → most < 2 ^ 63 → (new ≤ most) × (new ≡ one_more old) → (armed ≡ true) × (most ≤ new)
 rose old new most armed le counted few rises = by armed le
   where
     more : old < new

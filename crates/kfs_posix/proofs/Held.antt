@@ -21,10 +21,10 @@ use Rattle.kfs_model.specs.declared.Description.{Description}
 use Rattle.kfs_model.specs.Ladder.{◌>>=◌, ◌>>◌, ◌when◌}
 use Rattle.kfs_model.specs.Tree.{Tree, Place, place_cmp, node_of, number_at, is_named, with_new, IsTree}
 use Rattle.kfs_model.specs.Desk.{Desk, opened, lowest_free, is_open, with_description}
-use Rattle.kfs_model.specs.Step.{World, After, settled, or_else, dup, lseek, fstat, close, swept, with_desk, content, told, with_offset, natural, is_negative}
+use Rattle.kfs_model.specs.Step.{World, After, settled, or_else, dup, lseek, fstat, swept, with_desk, content, told, with_offset, natural, is_negative}
 use Rattle.kfs_laws.specs.Worlds.{IsDesk}
 use Rattle.kfs_laws.proofs.Lookups.{same_numbers, number_put, number_other, decide_number, number_apart, number_tied, some_found, or_left, place_put}
-use Rattle.kfs_laws.proofs.Desks.{empty_is, sharing_is, closing_is, moving_is}
+use Rattle.kfs_laws.proofs.Desks.{empty_is, sharing_is, moving_is}
 use Rattle.kfs_posix.specs.declared.open_files.OpenFile.{OpenFile}
 use Rattle.kfs_posix.specs.Opens.{Opens, no_files, desk_of, open_at, with_descriptor, with_file, closed, without, is_held}
 use Rattle.kfs_posix.specs.Holding.{Holds, Knows, is_file, size_of}

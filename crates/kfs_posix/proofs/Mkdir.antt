@@ -1,13 +1,8 @@
 -- `mkdir` of a session as an event of a life.
-use Rattle.std.proofs.Common.{◌≡◌, ℕ, ◌<◌, ◌≤◌, ◌+◌, ◌-◌, ◌^◌, ◌&&◌, inl, inr, true, false, cond, Bool, refl, sym, ◌∙◌, ap, subst, arith, List, [], ◌∷◌, ◌++◌, length, take, get_or, Some, None, is_some, Result, Ok, Err, nat_lt, nat_le}
-use Rattle.std.specs.FinMap as objects
+use Rattle.std.proofs.Common.{◌≡◌, ℕ, ◌<◌, ◌≤◌, ◌+◌, ◌^◌, true, false, Bool, refl, sym, ◌∙◌, ap, subst, arith, List, Some, None, is_some, Result, Ok, Err, nat_lt}
 use Rattle.std.proofs.lemmas.Bool.Decides.{nat_tests}
-use Rattle.std.proofs.lemmas.List.{length_push, take-append-le, take_all}
 use Rattle.kv_device.specs.declared.fault.DeviceFault.{DeviceFault}
 use Rattle.kv_device.specs.Objects.{Objects}
-use Rattle.kfs_objects.specs.Keys.{inode_key, entry_key}
-use Rattle.kfs_objects.specs.Records.{inode_value, entry_value}
-use Rattle.kfs_objects.proofs.KeyLaws.{length_be64}
 use Rattle.kfs_path.specs.declared.call.Call.TheVariants as calls
 use Rattle.kfs_path.specs.declared.call.Reply.TheVariants as replies
 use Rattle.kfs_path.specs.declared.call.Errno.{Errno}
@@ -16,28 +11,23 @@ use Rattle.kfs_model.specs.declared.Line.TheVariants as lines
 use Rattle.kfs_model.specs.declared.Answer.TheVariants as answers
 use Rattle.kfs_model.specs.Ladder.{◌>>=◌, ◌>>◌, ◌when◌, bind_ok, then_ok}
 use Rattle.kfs_path.specs.declared.call.Errno.TheVariants.{EEXIST, ENOSPC}
-use Rattle.kfs_model.specs.Tree.{Place, Tree, charge, chunks, with_new, number_at, node_of}
-use Rattle.kfs_model.specs.Step.{After, syntax, step, settled, mkdir_at, leaves}
-use Rattle.kfs_model.specs.Change.{weight, is_boundary}
+use Rattle.kfs_model.specs.Tree.{Place, with_new, number_at}
+use Rattle.kfs_model.specs.Step.{syntax, settled, mkdir_at, leaves}
 use Rattle.kfs_model.specs.Life.{Live}
-use Rattle.kfs_shows.specs.Shows.{ShowsTree}
 use Rattle.kfs_shows.proofs.Making.{fresh_dir}
-use Rattle.kfs_tx.specs.Run.{Run, SameBounds, Fallen, GetFault, seen, committed, counted, with_super, is_full}
-use Rattle.kfs_tx.proofs.Seeing.{ready_put, seen_put, keys_put}
-use Rattle.kfs_tx.proofs.Falling.{get_falls, put_falls, change_falls}
+use Rattle.kfs_tx.specs.Run.{GetFault, seen}
+use Rattle.kfs_tx.proofs.Falling.{get_falls}
 use Rattle.kfs_core.specs.Flat.{Where, at_root, walk_in, place_in}
 use Rattle.kfs_core.specs.Making.{parent_of, made, MakeFault}
 use Rattle.kfs_core.proofs.Ways.{IsSpot}
 use Rattle.kfs_core.proofs.Judges.{place_same, SamePlace}
 use Rattle.kfs_posix.specs.Book.{Book, limits_of, cause_of}
-use Rattle.kfs_posix.specs.Opens.{desk_of}
-use Rattle.kfs_posix.specs.Holding.{Holds}
 use Rattle.kfs_posix.proofs.Held.{new_holds}
 use Rattle.kfs_posix.proofs.Adding.{Adds, add_goes, add_falls}
 use Rattle.kfs_core.proofs.Adding.{free_place}
-use Rattle.kfs_posix.specs.Showing.{ShowsLive, IsSaved, GoesOn}
+use Rattle.kfs_posix.specs.Showing.{ShowsLive, GoesOn}
 use Rattle.kfs_posix.proofs.Going.{spare, spare_free, as_before, idle_goes, fall_goes}
-use Rattle.kfs_posix.proofs.Calls.{stands_of, room_for, any_cause}
+use Rattle.kfs_posix.proofs.Calls.{stands_of, any_cause}
 
 -- where a place was found, there is room
 pub place_fits : (m : Objects) (keys charged : ℕ) (path : List ℕ) (w : Where) → place_in m keys charged path ≡ Ok w → charged + 2 ≤ keys
@@ -93,7 +83,7 @@ module _ (old : Book) (path : List ℕ) where
   pub mkdir_unread : (new : Book) (fault : DeviceFault) → old.down ≡ None → new.down ≡ Some (cause_of fault) → limits_of new ≡ limits_of old → GetFault old.run fault new.run.machine → GoesOn old (lines.Call (calls.Mkdir path)) (answers.Reply (replies.Down (cause_of fault))) new
   mkdir_unread new fault up down same h = fall_goes old new (calls.Mkdir path) fault up down same (λ live sh. record {
     stands = old.run.machine.stable;
-    fallen = get_falls old.run fault new.run.machine sh.ready h;
+    fallen = get_falls old.run fault new.run.machine sh.light.ready h;
     stood = as_before sh.saved;
     can = λ cause e. any_cause live.world (calls.Mkdir path) refl refl refl cause;
   })

@@ -3,7 +3,7 @@ use Rattle.std.specs.List.{list_any}
 use Rattle.kfs_laws.proofs.Lookups.{same_numbers}
 use Rattle.kfs_shows.proofs.Sweeping.{nameless_test}
 use Rattle.kfs_core.proofs.Cleared.{kept_all, kept_both}
-use Rattle.std.proofs.Common.{◌≡◌, ℕ, ◌+◌, ◌<◌, ◌≤◌, ◌-◌, ◌^◌, ◌&&◌, true, false, cond, Bool, refl, sym, ◌∙◌, ap, subst, arith, lit<, List, [], ◌∷◌, length, filter, sum_by, Some, None, nat_le, unwrap_or, option_and_then, slice_get, inl, inr, ◌==◌}
+use Rattle.std.proofs.Common.{◌≡◌, ℕ, ◌<◌, ◌≤◌, ◌-◌, ◌^◌, ◌&&◌, true, false, cond, Bool, refl, sym, ◌∙◌, ap, subst, arith, lit<, List, [], ◌∷◌, length, filter, sum_by, Some, None, nat_le, unwrap_or, option_and_then, slice_get, inl, inr, ◌==◌}
 use Rattle.std.specs.Ordering.{nat_cmp}
 use Rattle.std.specs.FinMap as objects
 use Rattle.std.specs.FinMap.{nat_cmp-IsAntisymmetric}
@@ -136,7 +136,6 @@ module _ (old : Machine) (up : old.up ≡ true) (idle : old.pending ≡ none_ope
         changes_is,
         record {
           up = refl;
-          ready = ready over up idle changes next;
           tree = shown.0;
           low = before.next;
           few_changes = before.count;
@@ -150,8 +149,7 @@ module _ (old : Machine) (up : old.up ≡ true) (idle : old.pending ≡ none_ope
           next = next_is;
           changes = refl;
           weight = refl;
-          light = lit< tt;
-          few = let z = none_changed over up idle changes next in omega arith;
+          light = record { ready = ready over up idle changes next; light = lit< tt; few = let z = none_changed over up idle changes next in omega arith };
           keys = keys_is;
           pages = pages_is;
           charged = counted ∙ charge_same now u stands held;

@@ -106,7 +106,7 @@ plan_put old live sh mid desk call n c p count plan = record {
   weight = plan.numbers.weight;
   stable = plan.numbers.stable;
   bounds = plan.numbers.bounds;
-  few = let a = plan.few in let f = sh.few in omega arith;
+  few = let a = plan.few in let f = sh.light.few in omega arith;
   room = plan.room;
 }
 
@@ -145,7 +145,7 @@ module _ (old : Book) (mid : Run) (same : mid ≡ pending_of mid old.run) (call 
           let saved = to_save old live sh mid tree n mid.next c p put x.plan.charged x.plan.chunked files x.holds in
           let room = room_for (seen (with_super mid mid.next)) tree (live.past.count + 1) (limits_of old) mid.machine put.tree shows (let h = put.low in omega arith) put.room (sh.keys ∙ sym put.bounds.room_keys) (sh.pages ∙ sym put.bounds.room_pages) in
           let step_is = x.plan.steps (spare old) in
-          elim (change_falls mid n mid.next fault new.run.machine put.ready (let f = put.few in let l = sh.light in let w = x.plan.light in omega arith) room h) [
+          elim (change_falls mid n mid.next fault new.run.machine put.ready (let f = put.few in let l = sh.light.light in let w = x.plan.light in omega arith) room h) [
             | inl f ↦ record {
               stands = old.run.machine.stable;
               fallen = fallen_from old.run mid fault old.run.machine.stable new.run.machine same f.cause (f.stable ∙ put.stable) f.bounds;
@@ -167,7 +167,7 @@ pub early_falls : (old new : Book) (call : Call) (m : ℕ) (fault : DeviceFault)
     → ((live : Live) → ShowsLive old live → m ≤ 260) → Fails old.run m fault new.run.machine → GoesOn old (lines.Call call) (answers.Reply (replies.Down (cause_of fault))) new
 early_falls old new call m fault up down limits can few h = fall_goes old new call fault up down limits (λ live sh. record {
   stands = old.run.machine.stable;
-  fallen = h.fallen sh.ready (let a = few live sh in let b = sh.few in let c = sh.light in omega arith);
+  fallen = h.fallen sh.light.ready (let a = few live sh in let b = sh.light.few in let c = sh.light.light in omega arith);
   stood = as_before sh.saved;
   can = λ cause e. can live sh cause;
 })
@@ -177,7 +177,7 @@ pub unread_at : (old new : Book) (call : Call) (fault : DeviceFault) → old.dow
     → GetFault old.run fault new.run.machine → GoesOn old (lines.Call call) (answers.Reply (replies.Down (cause_of fault))) new
 unread_at old new call fault up down limits can h = fall_goes old new call fault up down limits (λ live sh. record {
   stands = old.run.machine.stable;
-  fallen = get_falls old.run fault new.run.machine sh.ready h;
+  fallen = get_falls old.run fault new.run.machine sh.light.ready h;
   stood = as_before sh.saved;
   can = λ cause e. can live sh cause;
 })

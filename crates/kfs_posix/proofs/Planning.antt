@@ -1,5 +1,6 @@
 -- Planned cuts and faults, as events of a life.
-use Rattle.std.proofs.Common.{◌≡◌, ℕ, ◌<◌, ◌≤◌, ◌+◌, ◌-◌, ◌^◌, min, true, Option, refl, ◌∙◌, arith, subst, sym}
+use Rattle.std.proofs.Common.{◌≡◌, ℕ, ◌<◌, ◌≤◌, ◌+◌, ◌^◌, true, Option, refl, ◌∙◌, arith, subst, sym}
+use Rattle.kv_base.specs.Counts.{one_more}
 use Rattle.kv_device.specs.Machine.{view, with_most_cuts, with_most_faults}
 use Rattle.kfs_path.specs.declared.call.Reply.TheVariants as replies
 use Rattle.kfs_model.specs.declared.Line.TheVariants as lines
@@ -40,7 +41,6 @@ failing_book b most = record b { run = failing_run b.run most }
 still_live : (b : Book) (cuts faults : ℕ) (live : Live) → ShowsLive b live → ShowsLive (bounded_book b cuts faults) live
 still_live b cuts faults live sh = record {
   up = sh.up;
-  ready = record { up = sh.ready.up; alone = sh.ready.alone };
   tree = sh.tree;
   low = sh.low;
   few_changes = sh.few_changes;
@@ -54,8 +54,7 @@ still_live b cuts faults live sh = record {
   next = sh.next;
   changes = sh.changes;
   weight = sh.weight;
-  light = sh.light;
-  few = sh.few;
+  light = record { ready = record { up = sh.light.ready.up; alone = sh.light.ready.alone }; light = sh.light.light; few = sh.light.few };
   keys = sh.keys;
   pages = sh.pages;
   charged = sh.charged;
@@ -92,7 +91,7 @@ plan_by old k0 k1 o d n how is rest planned few =
     subst (λ (s : SessionState). GoesOn s.book (lines.Cut n how) (answers.Reply replies.Done) (book_of k1 o d)) is
     (subst (λ c. GoesOn (book_of k0 o d) (lines.Cut n how) (answers.Reply replies.Done) c) (sym e) (plan_goes (book_of k0 o d) n how low))
 
-pub fail_goes : (b : Book) (kind n most : ℕ) → b.run.machine.faults ≤ most → most ≤ min (b.run.machine.faults + 1) (2 ^ 64 - 1) → b.run.machine.faults + 1 < 2 ^ 63 → GoesOn b (lines.Fail kind n) (answers.Reply replies.Done) (failing_book b most)
+pub fail_goes : (b : Book) (kind n most : ℕ) → b.run.machine.faults ≤ most → most ≤ one_more b.run.machine.faults → b.run.machine.faults + 1 < 2 ^ 63 → GoesOn b (lines.Fail kind n) (answers.Reply replies.Done) (failing_book b most)
 fail_goes b kind n most fewest least few = record { each = λ s showing. by s showing s.now showing.now }
   where
     shown : (s : State) → ShowsState b s → (now : Now) → ShowsNow b now → ShowsState (failing_book b most) (record { now = now; cut_armed = s.cut_armed; fail_armed = true })
@@ -111,7 +110,7 @@ fail_goes b kind n most fewest least few = record { each = λ s showing. by s sh
     by s showing (Down past may) sh = (record { now = Down past may; cut_armed = s.cut_armed; fail_armed = true }, (refl, refl), shown s showing (Down past may) sh)
 
 pub fail_by : (old : SessionState) (k0 k1 : KfsState) (o : Opens) (d : Option Cause) (kind n most : ℕ) → state_of k0 o d ≡ old → Stays k0 k1 → run_in k1 ≡ failing_run (run_in k0) most
-    → (run_in k0).machine.faults ≤ most → most ≤ min ((run_in k0).machine.faults + 1) (2 ^ 64 - 1) → old.book.run.machine.faults + 1 < 2 ^ 63 → GoesOn old.book (lines.Fail kind n) (answers.Reply replies.Done) (book_of k1 o d)
+    → (run_in k0).machine.faults ≤ most → most ≤ one_more (run_in k0).machine.faults → old.book.run.machine.faults + 1 < 2 ^ 63 → GoesOn old.book (lines.Fail kind n) (answers.Reply replies.Done) (book_of k1 o d)
 fail_by old k0 k1 o d kind n most is rest planned fewest least few =
     let e : book_of k1 o d ≡ failing_book (book_of k0 o d) most = stays_book k0 k1 o d rest ∙ (λ i. record (book_of k0 o d) { run = planned i }) in
     let low : (run_in k0).machine.faults + 1 < 2 ^ 63 = subst (λ (s : SessionState). s.book.run.machine.faults + 1 < 2 ^ 63) (sym is) few in

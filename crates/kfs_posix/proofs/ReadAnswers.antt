@@ -1,25 +1,22 @@
 -- Reading from a descriptor of a session, by what reading did.
-use Rattle.std.proofs.Common.{◌≡◌, ℕ, ◌+◌, ◌-◌, ◌^◌, inl, inr, true, refl, sym, ◌∙◌, ap, subst, List, Option, Some, None, Result, Ok, Err, ℤ}
-use Rattle.kv_device.specs.Machine.{Machine}
+use Rattle.std.proofs.Common.{◌≡◌, ℕ, inl, inr, true, refl, sym, ap, subst, List, Option, Some, None, Ok, Err, ℤ}
 use Rattle.kfs_path.specs.declared.call.Call.{Call}
 use Rattle.kfs_path.specs.declared.call.Call.TheVariants as calls
 use Rattle.kfs_path.specs.declared.call.Cause.{Cause}
-use Rattle.kfs_path.specs.declared.call.Errno.{Errno}
 use Rattle.kfs_path.specs.declared.call.Reply.{Reply}
 use Rattle.kfs_path.specs.declared.call.Reply.TheVariants as replies
 use Rattle.kfs_model.specs.declared.Line.TheVariants as lines
 use Rattle.kfs_model.specs.declared.Answer.TheVariants as answers
 use Rattle.kfs_model.specs.Step.{natural}
-use Rattle.kfs_tx.specs.Run.{Run, seen}
+use Rattle.kfs_tx.specs.Run.{seen}
 use Rattle.kfs_core.specs.declared.fault.CoreFault.{CoreFault}
 use Rattle.kfs_core.specs.declared.fault.CoreFault.TheVariants.{No, Device}
 use Rattle.kfs_core.specs.Core.{KfsState, run_in, Stays}
-use Rattle.kfs_core.specs.Gives.{Leaves, LeavesAtFault}
-use Rattle.kfs_posix.specs.declared.open_files.OpenFile.{OpenFile}
+use Rattle.kfs_core.specs.Gives.{LeavesAtFault}
 use Rattle.kfs_posix.specs.Opens.{Opens, with_file}
 use Rattle.kfs_posix.specs.Reading.{readable_in, readable_at, ReadDoes, PreadDoes, ReadRefuses}
 use Rattle.kfs_posix.specs.Book.{Book, SessionState, state_of, book_of, cause_of}
-use Rattle.kfs_posix.specs.Answering.{Counts, refusal, down_after}
+use Rattle.kfs_posix.specs.Answering.{refusal, down_after}
 use Rattle.kfs_posix.specs.Showing.{GoesOn}
 use Rattle.kfs_posix.proofs.Fault.{read_counts, read_awake}
 use Rattle.kfs_posix.proofs.Events.{Happens, IsPlain, plain, same_machine, answered, failed}

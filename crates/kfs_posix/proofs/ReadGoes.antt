@@ -1,5 +1,5 @@
 -- Reading from a descriptor as an event of a life.
-use Rattle.std.proofs.Common.{◌≡◌, ◌≢◌, ℕ, ◌<◌, ◌≤◌, ◌+◌, ◌-◌, ◌^◌, inl, inr, true, false, not, min, Bool, refl, sym, ◌∙◌, ap, subst, arith, List, length, take, drop, Option, Some, None, Result, Ok, Err, nat_lt, ℤ}
+use Rattle.std.proofs.Common.{◌≡◌, ℕ, ◌<◌, ◌≤◌, ◌+◌, ◌-◌, ◌^◌, true, false, not, min, Bool, refl, sym, ◌∙◌, ap, subst, arith, List, length, drop, Option, Some, None, Result, Ok, Err, nat_lt, ℤ}
 use Rattle.std.specs.Option.{option_map}
 use Rattle.std.proofs.lemmas.List.{length-take, length-drop}
 use Rattle.kv_device.specs.declared.fault.DeviceFault.{DeviceFault}
@@ -15,11 +15,10 @@ use Rattle.kfs_model.specs.declared.Node.TheVariants.{Dir, File}
 use Rattle.kfs_model.specs.declared.Line.TheVariants as lines
 use Rattle.kfs_model.specs.declared.Answer.TheVariants as answers
 use Rattle.kfs_model.specs.Ladder.{◌>>=◌, ◌>>◌, ◌when◌}
-use Rattle.kfs_model.specs.Tree.{Tree, node_of, greatest_length, IsTree}
-use Rattle.kfs_model.specs.Desk.{opened, with_description}
-use Rattle.kfs_model.specs.Step.{World, After, settled, step, or_else, readable, read, pread, is_open_dir, piece_at, content, with_desk, with_offset, is_negative, natural, greatest_count, answers as answered_by}
-use Rattle.kfs_model.specs.Life.{Live, can_fail}
-use Rattle.kfs_path.specs.declared.call.Cause.TheVariants.{Cut, Eio, NoMem}
+use Rattle.kfs_model.specs.Tree.{Tree, node_of, greatest_length}
+use Rattle.kfs_model.specs.Desk.{with_description}
+use Rattle.kfs_model.specs.Step.{settled, step, or_else, readable, is_open_dir, piece_at, content, with_desk, with_offset, is_negative, natural, greatest_count, answers as answered_by}
+use Rattle.kfs_model.specs.Life.{Live}
 use Rattle.kfs_tx.specs.Run.{seen, GetFault}
 use Rattle.kfs_core.specs.Files.{Reads}
 use Rattle.kfs_core.specs.declared.fault.CoreFault.TheVariants.{No}

@@ -1,5 +1,5 @@
 -- `rename` of a session, by what it did.
-use Rattle.std.proofs.Common.{◌≡◌, ℕ, ◌<◌, ◌+◌, ◌-◌, ◌^◌, inl, inr, true, false, refl, sym, ◌∙◌, ap, subst, List, Option, Some, None, Result, Ok, Err}
+use Rattle.std.proofs.Common.{◌≡◌, ℕ, ◌<◌, ◌+◌, ◌-◌, ◌^◌, inl, inr, true, refl, sym, ◌∙◌, ap, subst, List, Option, Some, None, Result, Ok}
 use Rattle.std.specs.Option.{option_and_then}
 use Rattle.kv_device.specs.Machine.{Machine}
 use Rattle.kfs_path.specs.declared.call.Call.{Call}
@@ -18,7 +18,7 @@ use Rattle.kfs_core.specs.declared.fault.CoreFault.TheVariants.{No, Device}
 use Rattle.kfs_core.specs.declared.renaming.Move.{Move}
 use Rattle.kfs_core.specs.Core.{KfsState, run_in}
 use Rattle.kfs_core.specs.Removing.{is_open_in}
-use Rattle.kfs_core.specs.Renaming.{MovesTo, MoveFault, RenameFails, with_moved, chunks_replaced, keys_replaced, replaced_node, rename_in}
+use Rattle.kfs_core.specs.Renaming.{MovesTo, MoveFault, RenameFails, with_moved, chunks_replaced, keys_replaced, replaced_node}
 use Rattle.kfs_posix.specs.Opens.{Opens, nodes_of}
 use Rattle.kfs_posix.specs.Removing.{open_now}
 use Rattle.kfs_posix.specs.Renaming.{Renamed, NotRenamed, rename_by, without_replaced}

@@ -1,26 +1,20 @@
 -- `rename` of a session as an event of a life.
-use Rattle.std.proofs.Common.{◌≡◌, ◌≢◌, ℕ, ◌<◌, ◌≤◌, ◌+◌, ◌-◌, ◌^◌, ◌⊎◌, inl, inr, true, false, cond, Bool, refl, sym, ◌∙◌, ap, subst, arith, List, Option, Some, None, Result, Ok, Err}
-use Rattle.std.specs.Ordering.{nat_cmp}
-use Rattle.std.specs.FinMap.{find}
-use Rattle.std.specs.Option.{option_and_then}
+use Rattle.std.proofs.Common.{◌≡◌, ℕ, ◌<◌, ◌+◌, ◌-◌, ◌^◌, inl, inr, true, false, cond, Bool, refl, sym, ◌∙◌, ap, subst, arith, List, Option, Some, None, Result, Ok, Err}
 use Rattle.kv_device.specs.declared.fault.DeviceFault.{DeviceFault}
 use Rattle.kv_device.specs.Machine.{Machine}
 use Rattle.kfs_path.specs.declared.call.Call.{Call}
 use Rattle.kfs_path.specs.declared.call.Call.TheVariants as calls
-use Rattle.kfs_path.specs.declared.call.Cause.{Cause}
 use Rattle.kfs_path.specs.declared.call.Errno.{Errno}
 use Rattle.kfs_path.specs.declared.call.Reply.TheVariants as replies
 use Rattle.kfs_model.specs.declared.Line.TheVariants as lines
 use Rattle.kfs_model.specs.declared.Answer.TheVariants as answers
 use Rattle.kfs_model.specs.Ladder.{◌>>=◌}
-use Rattle.kfs_model.specs.Tree.{Tree, Place, without_place, renamed, is_named, IsTree}
+use Rattle.kfs_model.specs.Tree.{Tree, Place, without_place, renamed, IsTree}
 use Rattle.kfs_model.specs.Desk.{Desk, is_open}
-use Rattle.kfs_model.specs.Step.{World, After, Route, syntax, step, settled, swept, rename}
+use Rattle.kfs_model.specs.Step.{World, After, Route, syntax, settled, swept, rename}
 use Rattle.kfs_model.specs.Change.{weight, has_left}
-use Rattle.kfs_model.specs.Life.{Live, can_fail}
-use Rattle.kfs_tx.specs.Run.{Run, Caused, GetFault, seen, put_in, one_change}
-use Rattle.kfs_objects.specs.Keys.{orphan_key}
-use Rattle.kfs_objects.specs.Records.{orphan_value}
+use Rattle.kfs_model.specs.Life.{Live}
+use Rattle.kfs_tx.specs.Run.{Run, Caused, GetFault, seen, one_change}
 use Rattle.kfs_file.specs.Contents.{pending_of}
 use Rattle.kfs_core.specs.declared.removing.Leaf.{Leaf}
 use Rattle.kfs_core.specs.declared.renaming.Move.{Move}
@@ -31,8 +25,7 @@ use Rattle.kfs_core.proofs.Ladders.{of_ok}
 use Rattle.kfs_core.proofs.NamesAfter.{IsReplaced, move_others, move_nameless}
 use Rattle.kfs_core.proofs.RenamingJudges.{IsMove, MovesPath, rename_same}
 use Rattle.kfs_core.proofs.Plans.{Plan, move_light, rename_plan, rename_rests, rename_refused}
-use Rattle.kfs_posix.specs.declared.open_files.OpenFile.{OpenFile}
-use Rattle.kfs_posix.specs.Opens.{Opens, desk_of, without_name}
+use Rattle.kfs_posix.specs.Opens.{Opens, desk_of}
 use Rattle.kfs_posix.specs.Holding.{Holds}
 use Rattle.kfs_posix.specs.Removing.{open_now}
 use Rattle.kfs_posix.specs.Renaming.{rename_by, without_replaced}
@@ -113,7 +106,7 @@ module _ (old : Book) (from to : List ℕ) (up : old.down ≡ None) where
   pub rename_rest : judge ≡ Ok None → GoesOn old (lines.Call call) (answers.Reply replies.Done) old
   rename_rest is = turn_goes old old.files call replies.Done (spare old) (spare_free old) up refl (λ live sh.
       let at = routes None is in
-      let rests = rename_rests old.run sh.ready (limits_of old) live.world (world_shown old live sh) (reach old from live sh) sh.room old.charge old.chunks sh.charged sh.chunked from to at.0 at.1 at.2 at.3 at.4 in (
+      let rests = rename_rests old.run sh.light.ready (limits_of old) live.world (world_shown old live sh) (reach old from live sh) sh.room old.charge old.chunks sh.charged sh.chunked from to at.0 at.1 at.2 at.3 at.4 in (
         rests.0 (spare old) ∙ (λ i. record { world = record { tree = live.world.tree; desk = sh.desk i }; reply = replies.Done }),
         (λ i. weight live.world call (record { world = record { tree = live.world.tree; desk = sym sh.desk i }; reply = replies.Done })) ∙ rests.1,
         sh.holds,
@@ -124,7 +117,7 @@ module _ (old : Book) (from to : List ℕ) (up : old.down ≡ None) where
     | inl none ↦ rw none refl
     | inr x ↦ elim (err_bind (syntax to) (λ g. rename_in (seen old.run) x.0 g) e x.2) [
       | inl none ↦ rw (x.1, none) refl
-      | inr y ↦ rename_refused old.run sh.ready (limits_of old) live.world (world_shown old live sh) (reach old from live sh) sh.room old.charge old.chunks sh.charged sh.chunked from to x.0 y.0 x.1 y.1 e y.2 (spare old)
+      | inr y ↦ rename_refused old.run sh.light.ready (limits_of old) live.world (world_shown old live sh) (reach old from live sh) sh.room old.charge old.chunks sh.charged sh.chunked from to x.0 y.0 x.1 y.1 e y.2 (spare old)
     ]
   ])
 
@@ -155,7 +148,7 @@ module _ (old : Book) (from to : List ℕ) (up : old.down ≡ None) where
         let at = routes (Some move) is in
         let desk_is : live.world.desk ≡ desk_of files = sh.desk ∙ sym (replaced_desk o (replaced_node move)) in
         let plan = subst (λ (desk : Desk). Plan old.run (with_moved mid move) (limits_of old) live.world desk call n c p) desk_is
-        (rename_plan old.run sh.ready (limits_of old) live.world (world_shown old live sh) (reach old from live sh) sh.room old.charge old.chunks sh.charged sh.chunked (open_now o) (listed old from live sh) from to at.0 at.1 at.2 at.3 move at.4 mid does) in
+        (rename_plan old.run sh.light.ready (limits_of old) live.world (world_shown old live sh) (reach old from live sh) sh.room old.charge old.chunks sh.charged sh.chunked (open_now o) (listed old from live sh) from to at.0 at.1 at.2 at.3 move at.4 mid does) in
         let it = ways live sh in
         let tree_is : (swept (world_in (renamed (without_place t it.2.1) it.2.0 it.2.1) o)).tree ≡ plan.world.tree =
         (λ i. (swept (record { tree = renamed (without_place t it.2.1) it.2.0 it.2.1; desk = sym sh.desk i })).tree) ∙ ap (λ (a : After). a.world.tree) (sym (ap (settled live.world) it.1 ∙ it.2.4) ∙ plan.steps 0) in
@@ -169,7 +162,7 @@ module _ (old : Book) (from to : List ℕ) (up : old.down ≡ None) where
           → GoesOn old (lines.Call call) (answers.Reply (replies.Down (cause_of fault))) new
       rename_falls new fault down limits (inl h) = early_falls old new call (3 + chunks_replaced move.replaced (open_now old.files)) fault up down limits (λ live sh cause. any_cause live.world call refl refl refl cause) (λ live sh.
           let it = ways live sh in
-          let l = move_light old.run sh.ready (limits_of old) live.world (world_shown old live sh) (reach old from live sh) sh.room old.charge old.chunks sh.charged sh.chunked it.2.0 it.2.1 move it.2.2 (open_now old.files) in
+          let l = move_light old.run sh.light.ready (limits_of old) live.world (world_shown old live sh) (reach old from live sh) sh.room old.charge old.chunks sh.charged sh.chunked it.2.0 it.2.1 move it.2.2 (open_now old.files) in
           omega arith) h
       rename_falls new fault down limits (inr (mid, does, h)) =
           planned_falls old (with_moved mid move) (moved_same old.run move (open_now old.files) mid does) call files n c p count up (planned mid does) new fault down limits (λ live sh cause. any_cause live.world call refl refl refl cause) h

@@ -113,21 +113,21 @@ module _ (old : Book) (n was size : ℕ) (call : Call) (reply : Reply) (files : 
         puts_bytes = subst (λ s. PutsLength old.run n s size put) it.was_is puts
 
         rests : Rests old.run mid (keys_cut (length it.bytes) size + 1)
-        rests = resized_rests old.run sh.ready live.world (world_shown old live sh) (let h = sh.low in omega arith) n it.bytes it.file size it.short put puts_bytes
+        rests = resized_rests old.run sh.light.ready live.world (world_shown old live sh) (let h = sh.low in omega arith) n it.bytes it.file size it.short put puts_bytes
 
         shows : ShowsWorld (seen mid) (with_tree live.world tree)
-        shows = resized_shows old.run sh.ready live.world (world_shown old live sh) (let h = sh.low in omega arith) n it.bytes it.file size it.short put puts_bytes
+        shows = resized_shows old.run sh.light.ready live.world (world_shown old live sh) (let h = sh.low in omega arith) n it.bytes it.file size it.short put puts_bytes
 
         few : changed_keys mid + 1 ≤ old.run.weight + w
         few =
-            let f = rests.few sh.ready in
+            let f = rests.few sh.light.ready in
             let same_cut : keys_cut (length it.bytes) size ≡ keys_cut was size = ap (λ s. keys_cut s size) (sym it.was_is) in
-            let h = sh.few in
+            let h = sh.light.few in
             omega arith
 
         put_is : IsPut old mid tree w put.next
         put_is = record {
-          ready = rests.ready sh.ready;
+          ready = rests.ready sh.light.ready;
           tree = shows.tree;
           shows = shows.shows;
           low = sh.low;
@@ -175,11 +175,11 @@ module _ (old : Book) (n was size : ℕ) (call : Call) (reply : Reply) (files : 
         (λ live sh. let it = at live sh in let k = few_cut was size (let h = sh.tree.lengths n it.bytes it.file in let e = it.was_is in omega arith) in omega arith) h
     length_falls new fault down limits can at (inr (put, puts, inl h)) = fall_goes old new call fault up down limits (λ live sh.
         let it = at live sh in
-        let keys = puts.keys sh.ready in
+        let keys = puts.keys sh.light.ready in
         let k = few_keys put puts (spare old) live sh it in
-        let few = sh.few in
-        let light = sh.light in
-        let f = put_falls put (inode_key n) (inode_value 2 size) fault new.run.machine (puts.resizes.ready sh.ready) (omega arith) (small_inode size (inode_key n)) h in
+        let few = sh.light.few in
+        let light = sh.light.light in
+        let f = put_falls put (inode_key n) (inode_value 2 size) fault new.run.machine (puts.resizes.ready sh.light.ready) (omega arith) (small_inode size (inode_key n)) h in
         record {
           stands = old.run.machine.stable;
           fallen = fallen_from old.run put fault old.run.machine.stable new.run.machine puts.resizes.same f.cause (f.stable ∙ ap (λ (r : Run). r.machine.stable) puts.resizes.same) f.bounds;
@@ -199,7 +199,7 @@ module _ (old : Book) (n was size : ℕ) (call : Call) (reply : Reply) (files : 
         let only = same put puts in
         let k = few_keys put puts (spare old) live sh it in
         let enough = is.few in
-        let light = sh.light in
+        let light = sh.light.light in
         elim (change_falls m w put.next fault new.run.machine is.ready (omega arith) room h) [
           | inl f ↦ record {
             stands = old.run.machine.stable;

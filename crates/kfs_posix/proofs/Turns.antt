@@ -1,6 +1,5 @@
 -- Calls on the open files alone, as events of a life.
-use Rattle.std.proofs.Common.{◌≡◌, ℕ, ◌+◌, true, false, cond, Bool, refl, sym, ◌∙◌, ap, subst, arith, Option, Some, None, Result, Ok, length, ℤ, pos, ◌+ℤ◌, ◌^◌, nat_lt, nat_le}
-use Rattle.std.proofs.lemmas.Bool.Decides.{nat_tests}
+use Rattle.std.proofs.Common.{◌≡◌, ℕ, true, false, cond, Bool, refl, sym, ◌∙◌, subst, Option, Some, None, Result, Ok, ℤ, pos, ◌+ℤ◌, ◌^◌, nat_le}
 use Rattle.kv_device.specs.Machine.{Machine}
 use Rattle.kfs_path.specs.declared.call.Call.{Call}
 use Rattle.kfs_path.specs.declared.call.Call.TheVariants as calls
@@ -16,10 +15,10 @@ use Rattle.kfs_model.specs.Ladder.{◌>>=◌, ◌>>◌, ◌when◌}
 use Rattle.kfs_model.specs.Tree.{Tree, Limits}
 use Rattle.kfs_model.specs.Desk.{Desk, lowest_free}
 use Rattle.kfs_model.specs.Step.{World, step, or_else, is_negative, natural}
-use Rattle.kfs_model.specs.Change.{weight, commits, gone}
+use Rattle.kfs_model.specs.Change.{weight, commits}
 use Rattle.kfs_core.specs.Core.{KfsState, run_in}
 use Rattle.kfs_posix.specs.declared.open_files.OpenFile.{OpenFile}
-use Rattle.kfs_posix.specs.Opens.{Opens, desk_of, open_at, with_descriptor, with_file, closed}
+use Rattle.kfs_posix.specs.Opens.{Opens, desk_of, open_at, with_descriptor, with_file}
 use Rattle.kfs_posix.specs.Holding.{Holds}
 use Rattle.kfs_posix.specs.Turning.{Turn, turned, dup_in, lseek_in, fstat_in, base, at_offset}
 use Rattle.kfs_posix.specs.Book.{Book, SessionState, state_of, book_of, limits_of}

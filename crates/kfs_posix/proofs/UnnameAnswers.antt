@@ -1,7 +1,6 @@
 -- A call of a session that takes a name away, by what it did.
-use Rattle.std.proofs.Common.{◌≡◌, ℕ, ◌<◌, ◌+◌, ◌-◌, ◌^◌, inl, inr, true, false, refl, sym, ◌∙◌, ap, subst, Option, Some, None, Result, Ok, Err}
+use Rattle.std.proofs.Common.{◌≡◌, ◌<◌, ◌-◌, ◌^◌, inl, inr, true, refl, sym, ◌∙◌, ap, subst, Option, Some, None, Result}
 use Rattle.kv_device.specs.Machine.{Machine}
-use Rattle.kv_device.specs.declared.fault.DeviceFault.{DeviceFault}
 use Rattle.kfs_path.specs.declared.call.Call.{Call}
 use Rattle.kfs_path.specs.declared.call.Cause.{Cause}
 use Rattle.kfs_path.specs.declared.call.Errno.{Errno}

@@ -1,5 +1,5 @@
 -- What a call failed with that takes a name away, by the path's text.
-use Rattle.std.proofs.Common.{◌≡◌, ℕ, inl, inr, refl, sym, ◌∙◌, ap, subst, List, Result, Ok, Err}
+use Rattle.std.proofs.Common.{◌≡◌, ℕ, inl, inr, refl, ◌∙◌, ap, subst, List, Result, Ok}
 use Rattle.kfs_path.specs.declared.call.Errno.{Errno}
 use Rattle.kfs_model.specs.Ladder.{◌>>=◌}
 use Rattle.kfs_model.specs.Step.{Route, syntax}

@@ -2,8 +2,7 @@
 use Rattle.std.proofs.Common.{◌≡◌, ℕ, ◌<◌, ◌≤◌, ◌+◌, ◌-◌, ◌^◌, ◌⊎◌, inl, inr, true, false, Bool, refl, sym, ◌∙◌, ap, subst, arith, List, Some, None, Result, Ok, Err}
 use Rattle.kv_device.specs.declared.fault.DeviceFault.{DeviceFault}
 use Rattle.kv_device.specs.Machine.{Machine}
-use Rattle.kfs_objects.specs.Keys.{entry_key, orphan_key}
-use Rattle.kfs_objects.specs.Records.{orphan_value}
+use Rattle.kfs_objects.specs.Keys.{entry_key}
 use Rattle.kfs_path.specs.declared.call.Call.{Call}
 use Rattle.kfs_path.specs.declared.call.Call.TheVariants as calls
 use Rattle.kfs_path.specs.declared.call.Cause.{Cause}
@@ -12,13 +11,13 @@ use Rattle.kfs_path.specs.declared.call.Reply.TheVariants as replies
 use Rattle.kfs_model.specs.declared.Line.TheVariants as lines
 use Rattle.kfs_model.specs.declared.Answer.TheVariants as answers
 use Rattle.kfs_model.specs.Ladder.{◌>>=◌}
-use Rattle.kfs_model.specs.Tree.{Tree, Place, without_place}
+use Rattle.kfs_model.specs.Tree.{Place, without_place}
 use Rattle.kfs_model.specs.Desk.{Desk, is_open}
-use Rattle.kfs_model.specs.Step.{World, After, Route, syntax, step, settled, swept, unlink, rmdir_at, leaves_swept}
+use Rattle.kfs_model.specs.Step.{World, After, syntax, step, settled, swept, unlink, rmdir_at, leaves_swept}
 use Rattle.kfs_model.specs.Change.{weight, commits}
 use Rattle.kfs_model.specs.Life.{Live, can_fail}
 use Rattle.kfs_shows.specs.Sweeping.{with_tree}
-use Rattle.kfs_tx.specs.Run.{Run, Caused, GetFault, seen, put_in, deleted_in, one_change}
+use Rattle.kfs_tx.specs.Run.{Run, Caused, GetFault, seen, deleted_in, one_change}
 use Rattle.kfs_file.specs.Contents.{pending_of}
 use Rattle.kfs_core.specs.declared.removing.Leaf.{Leaf}
 use Rattle.kfs_core.specs.Removing.{Unnames, UnlinkFault, chunks_gone, keys_gone, unlink_in, rmdir_in}
@@ -26,7 +25,7 @@ use Rattle.kfs_core.proofs.Dropped.{goes_follows}
 use Rattle.kfs_core.proofs.Ladders.{of_ok}
 use Rattle.kfs_core.proofs.RemovingJudges.{IsLeaf, UnlinksLeaf, unlink_same, RemovesLeaf, rmdir_same}
 use Rattle.kfs_core.proofs.Plans.{Plan, leaf_light, unlink_plan, unlink_refused, rmdir_plan, rmdir_refused}
-use Rattle.kfs_posix.specs.Opens.{Opens, desk_of, without_name}
+use Rattle.kfs_posix.specs.Opens.{desk_of, without_name}
 use Rattle.kfs_posix.specs.Holding.{Holds}
 use Rattle.kfs_posix.specs.Removing.{open_now, unlink_by, rmdir_by}
 use Rattle.kfs_posix.specs.Book.{Book, limits_of, cause_of}
@@ -92,7 +91,7 @@ module _ (old : Book) (call : Call) (judge : Result Leaf Errno) (removal : IsRem
       → GoesOn old (lines.Call call) (answers.Reply (replies.Down (cause_of fault))) new
   unname_falls new leaf fault is down limits (inl h) = early_falls old new call (2 + chunks_gone leaf (open_still leaf)) fault up down limits (λ live sh cause. removal.can live.world cause) (λ live sh.
       let at = removal.leaf live sh leaf is in
-      let l = leaf_light old.run sh.ready (limits_of old) live.world (world_shown old live sh) (let h = sh.low in omega arith) sh.room old.charge old.chunks sh.charged sh.chunked at.0 leaf at.1 (open_still leaf) in
+      let l = leaf_light old.run sh.light.ready (limits_of old) live.world (world_shown old live sh) (let h = sh.low in omega arith) sh.room old.charge old.chunks sh.charged sh.chunked at.0 leaf at.1 (open_still leaf) in
       omega arith) h
   unname_falls new leaf fault is down limits (inr (mid, does, h)) =
       planned_falls old mid (unnames_same old.run leaf (open_still leaf) mid does) call (without_name old.files leaf.node) (unname_weight leaf) (charge_left leaf) (chunks_left leaf) count up (planned leaf is mid does) new fault down limits (λ live sh cause. removal.can live.world cause) h
@@ -123,7 +122,7 @@ module _ (old : Book) (path : List ℕ) where
   unlink_removal = record {
     plan = λ live sh leaf is mid does.
         let at = ok_bind (syntax path) (unlink_in (seen old.run)) leaf is in
-        unlink_plan old.run sh.ready (limits_of old) live.world (world_shown old live sh) (reach live sh) sh.room old.charge old.chunks sh.charged sh.chunked (open_now old.files) (listed live sh) path at.0 at.1 leaf at.2 mid does;
+        unlink_plan old.run sh.light.ready (limits_of old) live.world (world_shown old live sh) (reach live sh) sh.room old.charge old.chunks sh.charged sh.chunked (open_now old.files) (listed live sh) path at.0 at.1 leaf at.2 mid does;
     leaf = λ live sh leaf is.
         let t = live.world.tree in
         let at = ok_bind (syntax path) (unlink_in (seen old.run)) leaf is in
@@ -132,7 +131,7 @@ module _ (old : Book) (path : List ℕ) where
         (it.2.0, it.2.1, λ d. ap (settled live.world) it.1 ∙ ap (settled live.world) (ap Ok it.2.2));
     refused = λ live sh e is d. elim (err_bind (syntax path) (unlink_in (seen old.run)) e is) [
       | inl none ↦ rw none refl
-      | inr x ↦ unlink_refused old.run sh.ready (limits_of old) live.world (world_shown old live sh) (reach live sh) sh.room old.charge old.chunks sh.charged sh.chunked path x.0 x.1 e x.2 d
+      | inr x ↦ unlink_refused old.run sh.light.ready (limits_of old) live.world (world_shown old live sh) (reach live sh) sh.room old.charge old.chunks sh.charged sh.chunked path x.0 x.1 e x.2 d
     ];
     weightless = λ e w x. refl;
     quiet = λ e. refl;
@@ -143,7 +142,7 @@ module _ (old : Book) (path : List ℕ) where
   rmdir_removal = record {
     plan = λ live sh leaf is mid does.
         let at = ok_bind (syntax path) (rmdir_in (seen old.run)) leaf is in
-        rmdir_plan old.run sh.ready (limits_of old) live.world (world_shown old live sh) (reach live sh) sh.room old.charge old.chunks sh.charged sh.chunked (open_now old.files) (listed live sh) path at.0 at.1 leaf at.2 mid does;
+        rmdir_plan old.run sh.light.ready (limits_of old) live.world (world_shown old live sh) (reach live sh) sh.room old.charge old.chunks sh.charged sh.chunked (open_now old.files) (listed live sh) path at.0 at.1 leaf at.2 mid does;
     leaf = λ live sh leaf is.
         let t = live.world.tree in
         let at = ok_bind (syntax path) (rmdir_in (seen old.run)) leaf is in
@@ -152,7 +151,7 @@ module _ (old : Book) (path : List ℕ) where
         (it.0, it.2.0, λ d. ap (λ (x : Result Place Errno). settled live.world (x >>= λ place. leaves_swept live.world (without_place t place) replies.Done)) it.1);
     refused = λ live sh e is d. elim (err_bind (syntax path) (rmdir_in (seen old.run)) e is) [
       | inl none ↦ rw none refl
-      | inr x ↦ rmdir_refused old.run sh.ready (limits_of old) live.world (world_shown old live sh) (reach live sh) sh.room old.charge old.chunks sh.charged sh.chunked path x.0 x.1 e x.2 d
+      | inr x ↦ rmdir_refused old.run sh.light.ready (limits_of old) live.world (world_shown old live sh) (reach live sh) sh.room old.charge old.chunks sh.charged sh.chunked path x.0 x.1 e x.2 d
     ];
     weightless = λ e w x. refl;
     quiet = λ e. refl;

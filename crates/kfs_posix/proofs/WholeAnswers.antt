@@ -74,7 +74,7 @@ work_falls : (old new : Book) (operations : ℕ) (fault : DeviceFault) → old.d
     → GoesOn old (lines.Call (calls.Work operations)) (answers.Reply (replies.Down (cause_of fault))) new
 work_falls old new operations fault up down limits h = fall_goes old new (calls.Work operations) fault up down limits (λ live sh. record {
   stands = old.run.machine.stable;
-  fallen = work_fallen old.run.machine fault new.run.machine (subst (λ o. IsFault o Falls old.run.machine fault new.run.machine) (λ i. cond (not (sh.ready.up i)) (Some Off) None) h);
+  fallen = work_fallen old.run.machine fault new.run.machine (subst (λ o. IsFault o Falls old.run.machine fault new.run.machine) (λ i. cond (not (sh.light.ready.up i)) (Some Off) None) h);
   stood = as_before sh.saved;
   can = λ cause e. any_cause live.world (calls.Work operations) refl refl refl cause;
 })

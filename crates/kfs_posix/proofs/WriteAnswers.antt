@@ -1,9 +1,7 @@
 -- `write` and `pwrite` of a session, by what writing did.
-use Rattle.std.proofs.Common.{◌≡◌, ℕ, ◌<◌, ◌+◌, ◌-◌, ◌^◌, ◌==◌, ◌⊎◌, inl, inr, true, false, cond, max, refl, sym, ◌∙◌, ap, subst, arith, List, length, take, Option, Some, None, Result, Ok, Err, nat_lt, ℤ}
+use Rattle.std.proofs.Common.{◌≡◌, ℕ, ◌<◌, ◌+◌, ◌-◌, ◌^◌, inl, inr, true, max, refl, sym, ◌∙◌, ap, subst, List, length, take, Option, Some, None, Ok, Err, ℤ}
 use Rattle.kv_device.specs.declared.fault.DeviceFault.{DeviceFault}
 use Rattle.kv_device.specs.declared.fault.DeviceFault.TheVariants.{Memory}
-use Rattle.kv_device.specs.Machine.{Machine}
-use Rattle.kfs_path.specs.Pieces.{is_empty}
 use Rattle.kfs_path.specs.declared.call.Call.{Call}
 use Rattle.kfs_path.specs.declared.call.Call.TheVariants as calls
 use Rattle.kfs_path.specs.declared.call.Cause.{Cause}
@@ -14,20 +12,19 @@ use Rattle.kfs_path.specs.declared.call.Reply.TheVariants as replies
 use Rattle.kfs_model.specs.declared.Line.TheVariants as lines
 use Rattle.kfs_model.specs.declared.Answer.TheVariants as answers
 use Rattle.kfs_model.specs.Change.{spanned}
-use Rattle.kfs_model.specs.Step.{natural, greatest_count, World}
+use Rattle.kfs_model.specs.Step.{natural, World}
 use Rattle.kfs_model.specs.Life.{Live, can_fail}
-use Rattle.kfs_tx.specs.Run.{Run, age_of, seen, one_change, GetFault}
+use Rattle.kfs_tx.specs.Run.{age_of, one_change, GetFault}
 use Rattle.kfs_core.specs.declared.fault.CoreFault.{CoreFault}
 use Rattle.kfs_core.specs.declared.fault.CoreFault.TheVariants.{No, Device}
 use Rattle.kfs_core.specs.Core.{KfsState, run_in, Stays, Takes}
-use Rattle.kfs_core.specs.Files.{Wrote, WriteFault, WriteDoes, WriteFails, with_length}
+use Rattle.kfs_core.specs.Files.{Wrote, WriteFault, with_length}
 use Rattle.kfs_core.specs.Room.{grown, chunks_for, fits_in, space_in}
 use Rattle.kfs_core.proofs.FileFaults.{write_caused}
-use Rattle.kfs_posix.specs.declared.open_files.OpenFile.{OpenFile}
 use Rattle.kfs_posix.specs.Opens.{Opens, relengthed}
-use Rattle.kfs_posix.specs.Writing.{writable_in, writable_at, place_of, behind, moved_behind, PutFails, FdRefuses, FdWriteDoes, PwriteDoes}
+use Rattle.kfs_posix.specs.Writing.{writable_in, writable_at, place_of, behind, moved_behind, FdWriteDoes, PwriteDoes}
 use Rattle.kfs_posix.specs.Book.{Book, SessionState, state_of, book_of, running_in, cause_of}
-use Rattle.kfs_posix.specs.Answering.{Counts, refusal, down_after}
+use Rattle.kfs_posix.specs.Answering.{refusal, down_after}
 use Rattle.kfs_posix.specs.Showing.{ShowsLive, GoesOn}
 use Rattle.kfs_posix.proofs.Fault.{caused_counts, alone_caused}
 use Rattle.kfs_posix.proofs.Events.{Happens, same_machine, answered, failed, low_count}

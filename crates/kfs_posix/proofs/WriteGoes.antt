@@ -1,9 +1,6 @@
 -- Written bytes as an event of a life, whichever call writes them.
 use Rattle.std.proofs.Common.{◌≡◌, ℕ, ◌<◌, ◌≤◌, ◌+◌, ◌-◌, ◌^◌, inl, inr, true, false, cond, Bool, refl, sym, ◌∙◌, ap, subst, arith, List, length, Some, None}
-use Rattle.std.specs.Ordering.{nat_cmp}
-use Rattle.std.specs.FinMap.{find}
 use Rattle.kv_device.specs.declared.fault.DeviceFault.{DeviceFault}
-use Rattle.kv_device.specs.Machine.{Machine}
 use Rattle.kfs_path.specs.declared.call.Call.{Call}
 use Rattle.kfs_path.specs.declared.call.Cause.{Cause}
 use Rattle.kfs_path.specs.declared.call.Reply.{Reply}
@@ -16,7 +13,7 @@ use Rattle.kfs_model.specs.Step.{World, After, step}
 use Rattle.kfs_model.specs.Change.{weight, spanned, is_boundary}
 use Rattle.kfs_model.specs.Life.{Live, can_fail}
 use Rattle.kfs_tx.specs.Run.{Run, SameBounds, Fallen, seen, committed, counted, one_change, with_super, is_full}
-use Rattle.kfs_core.specs.Files.{PutsBytes, Wrote, WriteFault, with_length}
+use Rattle.kfs_core.specs.Files.{PutsBytes, WriteFault, with_length}
 use Rattle.kfs_core.specs.Room.{grown, chunks_for}
 use Rattle.kfs_core.proofs.FileEffects.{put_numbers, length_ready, length_few, new_is_tree, new_shows, charge_after, chunks_after}
 use Rattle.kfs_core.proofs.FileFaults.{write_falls}
@@ -71,9 +68,9 @@ module _ (old : Book) (n size p : ℕ) (given : List ℕ) (call : Call) (reply :
         let numbers = put_numbers old.run put n p given puts (grown long p (length given)) in
         subst (λ s. Planned s (with_node t n (File (written bytes p given)))) (sym it.size_is) (record {
           put_is = record {
-            ready = length_ready old.run put n p given puts sh.ready (grown long p (length given));
-            tree = new_is_tree old.run put n p given puts sh.ready t stands bytes it.file it.fits;
-            shows = new_shows old.run put n p given puts sh.ready t stands bytes it.file it.fits;
+            ready = length_ready old.run put n p given puts sh.light.ready (grown long p (length given));
+            tree = new_is_tree old.run put n p given puts sh.light.ready t stands bytes it.file it.fits;
+            shows = new_shows old.run put n p given puts sh.light.ready t stands bytes it.file it.fits;
             low = sh.low;
             few_changes = let c = numbers.changes in omega arith;
             next_is = numbers.next ∙ sh.next;
@@ -82,7 +79,7 @@ module _ (old : Book) (n size p : ℕ) (given : List ℕ) (call : Call) (reply :
             weight = numbers.weight;
             stable = numbers.stable;
             bounds = numbers.bounds;
-            few = length_few old.run put n p given puts sh.ready (grown long p (length given)) old.run.weight it.some sh.few;
+            few = length_few old.run put n p given puts sh.light.ready (grown long p (length given)) old.run.weight it.some sh.light.few;
             room = it.room;
           };
           charged = ap (λ c. c + (chunks_for (grown long p (length given)) - chunks_for long)) sh.charged ∙ charge_after t n bytes sh.tree it.file p given;
@@ -116,7 +113,7 @@ module _ (old : Book) (n size p : ℕ) (given : List ℕ) (call : Call) (reply :
       let it = puts_at live sh in
       let tree = with_node live.world.tree n (File (written it.bytes p given)) in
       let before : Fallen old.run.machine fault old.run.machine.stable new.run.machine → Fell old new live call fault = λ a. record { stands = old.run.machine.stable; fallen = a; stood = as_before sh.saved; can = λ cause e. can live.world cause } in
-      elim (write_falls old.run n size p given fault new.run.machine sh.ready (let f = sh.few in let l = sh.light in omega arith) it.fits (λ put puts.
+      elim (write_falls old.run n size p given fault new.run.machine sh.light.ready (let f = sh.light.few in let l = sh.light.light in omega arith) it.fits (λ put puts.
       let plan = planned put puts live sh it in
       let shows = sees old live sh (r put puts size) tree w put.next (old.charge + more) (old.chunks + more) plan.put_is plan.charged plan.chunked files it.holds in
       room_for (seen (with_super (r put puts size) put.next)) tree (live.past.count + 1) (limits_of old) old.run.machine plan.put_is.tree shows (let h = plan.put_is.low in omega arith) plan.put_is.room sh.keys sh.pages) h) [

@@ -1,37 +1,33 @@
 -- Writing to a descriptor, in the tree that is shown.
-use Rattle.std.proofs.Common.{◌≡◌, ◌≢◌, ℕ, zero, suc, ◌<◌, ◌≤◌, ◌+◌, ◌-◌, ◌/◌, ◌^◌, ◌==◌, ◌&&◌, inl, inr, true, false, cond, not, min, max, Bool, refl, sym, ◌∙◌, ap, subst, arith, List, [], ◌∷◌, length, take, replicate, map, Option, Some, None, Result, Ok, Err, nat_lt, nat_le, ℤ}
+use Rattle.std.proofs.Common.{◌≡◌, ℕ, ◌<◌, ◌≤◌, ◌+◌, ◌-◌, ◌==◌, ◌&&◌, inl, inr, true, false, cond, not, Bool, refl, sym, ◌∙◌, ap, subst, arith, List, [], ◌∷◌, length, take, replicate, Option, Some, None, Result, Ok, Err, nat_lt, nat_le}
 use Rattle.std.specs.Ordering.{nat_cmp}
-use Rattle.std.specs.Option.{option_map, option_and_then}
+use Rattle.std.specs.Option.{option_map}
 use Rattle.std.specs.FinMap.{find, put}
 use Rattle.std.proofs.lemmas.Bool.Decides.{nat_tests}
-use Rattle.std.proofs.lemmas.List.{length-take-le, length-replicate}
+use Rattle.std.proofs.lemmas.List.{length-replicate}
 use Rattle.std.proofs.lemmas.Option.{same_Some}
 use Rattle.kfs_path.specs.Pieces.{is_empty}
-use Rattle.kfs_path.specs.declared.call.Data.{Data}
-use Rattle.kfs_path.specs.declared.call.Data.TheVariants.{Plain}
 use Rattle.kfs_path.specs.declared.call.Errno.{Errno}
 use Rattle.kfs_path.specs.declared.call.Errno.TheVariants.{EBADF, EINVAL, EFBIG, ENOSPC}
 use Rattle.kfs_path.specs.declared.call.Reply.TheVariants as replies
 use Rattle.kfs_model.specs.declared.Description.{Description}
-use Rattle.kfs_model.specs.declared.Node.{Node}
-use Rattle.kfs_model.specs.declared.Node.TheVariants.{Dir, File}
+use Rattle.kfs_model.specs.declared.Node.TheVariants.{File}
 use Rattle.kfs_model.specs.Ladder.{◌>>=◌, ◌>>◌, ◌when◌}
-use Rattle.kfs_model.specs.Tree.{Tree, Limits, node_of, number_at, is_named, with_node, written, fits, fits_at, has_room, charge, chunks, greatest_length, IsTree}
+use Rattle.kfs_model.specs.Tree.{Tree, Limits, node_of, with_node, written, fits, fits_at, has_room, charge, chunks, greatest_length, IsTree}
 use Rattle.kfs_model.specs.Desk.{Desk, is_open, opened, with_description}
-use Rattle.kfs_model.specs.Step.{World, After, settled, or_else, writes, content, greatest_count, answers as answered_by}
+use Rattle.kfs_model.specs.Step.{World, After, or_else, writes, content, greatest_count, answers as answered_by}
 use Rattle.kfs_laws.specs.Worlds.{IsDesk}
 use Rattle.kfs_laws.proofs.Fitting.{fits_most}
 use Rattle.kfs_laws.proofs.Lookups.{number_put, number_other, decide_number}
-use Rattle.kfs_laws.proofs.Desks.{moving_is}
-use Rattle.kfs_core.proofs.FileEffects.{charge_after, chunks_after, grown_is}
+use Rattle.kfs_core.proofs.FileEffects.{charge_after, chunks_after}
 use Rattle.kfs_core.specs.Room.{grown, chunks_for}
 use Rattle.kfs_posix.specs.declared.open_files.OpenFile.{OpenFile}
 use Rattle.kfs_posix.specs.Opens.{Opens, open_at, desk_of, with_file, relengthed, relengthed_file, moved_at, moved_to}
-use Rattle.kfs_posix.specs.Holding.{Holds, Knows, is_file, size_of}
+use Rattle.kfs_posix.specs.Holding.{Holds, Knows, is_file}
 use Rattle.kfs_posix.specs.Turning.{at_offset}
-use Rattle.kfs_posix.specs.Writing.{writable_in, place_of}
-use Rattle.kfs_posix.proofs.Maps.{mapped, find-map, put-map}
-use Rattle.kfs_posix.proofs.Held.{world_in, description, described, opened_same, file_is, described_is, with_file_desk, file_holds, moved_knows, descriptor_is}
+use Rattle.kfs_posix.specs.Writing.{writable_in}
+use Rattle.kfs_posix.proofs.Maps.{mapped, find-map}
+use Rattle.kfs_posix.proofs.Held.{world_in, description, described, opened_same}
 
 -- ---- a file's new content
 

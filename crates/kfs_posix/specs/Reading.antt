@@ -4,7 +4,7 @@ use Rattle.kv_device.specs.Objects.{Objects}
 use Rattle.kfs_path.specs.declared.call.Errno.{Errno}
 use Rattle.kfs_path.specs.declared.call.Errno.TheVariants.{EBADF, EISDIR, EINVAL}
 use Rattle.kfs_model.specs.Ladder.{◌>>=◌, ◌>>◌, ◌when◌}
-use Rattle.kfs_model.specs.Step.{or_else, greatest_count, is_negative, natural}
+use Rattle.kfs_model.specs.Step.{or_else, greatest_count, is_negative}
 use Rattle.kfs_core.specs.declared.fault.CoreFault.{CoreFault}
 use Rattle.kfs_core.specs.declared.fault.CoreFault.TheVariants.{No, Device}
 use Rattle.kfs_core.specs.Files.{Reads}

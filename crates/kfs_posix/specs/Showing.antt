@@ -7,7 +7,8 @@ use Rattle.kv_device.specs.Objects.{Objects}
 use Rattle.kfs_model.specs.Tree.{Tree, Limits, charge, chunks, has_room, IsTree, IsKept}
 use Rattle.kfs_model.specs.Life.{State, Live, Now, Up, Down, Past, tree_at, Event, AnyOf}
 use Rattle.kfs_shows.specs.Shows.{Shows}
-use Rattle.kfs_tx.specs.Run.{IsReady, seen, changed_keys}
+use Rattle.kfs_tx.specs.Run.{seen}
+use Rattle.kfs_core.specs.Bounds.{IsLight}
 use Rattle.kfs_posix.specs.Book.{Book, limits_of}
 use Rattle.kfs_posix.specs.Opens.{desk_of}
 use Rattle.kfs_posix.specs.Holding.{Holds}
@@ -27,7 +28,6 @@ pub record IsSaved (k : Limits) (m : Objects) (t : Tree) (n : ℕ) : Type 0 wher
 -- an up session: the transaction's view shows the live tree, and `stable` the tree at mark
 pub record ShowsLive (b : Book) (live : Live) : Type 0 where
   pub up : b.down ≡ None
-  pub ready : IsReady b.run
   pub tree : IsTree live.world.tree
   pub low : live.world.tree.next < 2 ^ 63
   pub few_changes : live.past.count < 2 ^ 63
@@ -41,8 +41,7 @@ pub record ShowsLive (b : Book) (live : Live) : Type 0 where
   pub next : b.run.next ≡ live.world.tree.next
   pub changes : b.run.since ≡ live.since.changes
   pub weight : b.run.weight ≡ live.since.weight
-  pub light : b.run.weight < 256
-  pub few : changed_keys b.run ≤ b.run.weight
+  pub light : IsLight b.run
   pub keys : b.keys ≡ b.run.machine.room_keys
   pub pages : b.pages ≡ b.run.machine.room_pages
   pub charged : b.charge ≡ charge live.world.tree

@@ -1,5 +1,5 @@
 -- Writing to a descriptor, over the objects and the open files.
-use Rattle.std.specs.Prelude.{ℕ, ◌≡◌, ◌+◌, ◌-◌, ◌^◌, ◌==◌, ◌⊎◌, Bool, true, false, not, min, max, nat_lt, List, [], length, Result, Ok, Err, ℤ, if◌then◌else◌}
+use Rattle.std.specs.Prelude.{ℕ, ◌≡◌, ◌+◌, ◌-◌, ◌^◌, ◌==◌, ◌⊎◌, true, false, not, min, max, nat_lt, List, length, Result, Ok, Err, ℤ, if◌then◌else◌}
 use Rattle.kfs_path.specs.Pieces.{is_empty}
 use Rattle.kfs_path.specs.declared.call.Errno.{Errno}
 use Rattle.kfs_path.specs.declared.call.Errno.TheVariants.{EBADF, EINVAL}

@@ -1,5 +1,6 @@
 // A session: the file calls over a device, as a life.
 ghost use Rattle.std.specs.Prelude.{◌≡◌, ◌≤◌, ◌<◌, ◌+◌, ◌-◌, ◌^◌, true, None, IfOk, OnOk, IfErr};
+ghost use Rattle.kv_base.specs.Counts.{one_more};
 ghost use Rattle.kv_device.specs.Machine.{none_open, begun};
 ghost use Rattle.kv_device.specs.Calls.{Ages};
 ghost use Rattle.kfs_tx.specs.Run.{age_of, Aged};
@@ -218,7 +219,7 @@ impl<D: PlannedDevice> Session<D> {
         ensures goes_on { self.old.book.run.machine.faults + 1 < 2 ^ 63 → GoesOn self.old.book (lines.Fail kind n) (answers.Reply replies.Done) self.new.book }
         ensures planned { self.new.book.run.machine ≡ with_most_faults self.old.book.run.machine self.new.book.run.machine.most_faults }
         ensures fewest { self.old.book.run.machine.faults ≤ self.new.book.run.machine.most_faults }
-        ensures most { self.new.book.run.machine.most_faults ≤ min (self.old.book.run.machine.faults + 1) (2 ^ 64 - 1) }
+        ensures most { self.new.book.run.machine.most_faults ≤ one_more self.old.book.run.machine.faults }
         ensures room { limits_of self.new.book ≡ limits_of self.old.book }
         ensures down { self.new.book.down ≡ self.old.book.down }
         ensures age { self.new.device_age ≡ self.old.device_age }

@@ -1,4 +1,4 @@
 use Rattle.kfs_posix.proofs.bounds.sessions_are_light.Goals as goal
 
 pub returns : goal.returns
-returns c b live sh = record { ready = sh.ready; light = sh.light; few = sh.few }
+returns c b live sh = sh.light

@@ -1,4 +1,4 @@
-use Rattle.std.proofs.Common.{◌≡◌, inl, inr, ℕ, List, ap, subst, sym, ◌∙◌, Ok, Err, Result, w64}
+use Rattle.std.proofs.Common.{◌≡◌, inr, ℕ, List, ap, subst, sym, ◌∙◌, Ok, Err, Result, w64}
 use Rattle.std.proofs.lemmas.Int.{to_z-of_z}
 use Rattle.kfs_path.specs.declared.call.Errno.{Errno}
 use Rattle.kfs_core.specs.declared.fault.CoreFault.{CoreFault}

@@ -1,4 +1,4 @@
-use Rattle.std.proofs.Common.{◌≡◌, ◌≢◌, ℕ, ◌==◌, true, false, cond, Bool, ap, subst, sym, ◌∙◌, Ok, arith}
+use Rattle.std.proofs.Common.{◌≡◌, ◌≢◌, ℕ, ◌==◌, false, cond, ap, subst, sym, ◌∙◌, Ok, arith}
 use Rattle.std.proofs.lemmas.Bool.Decides.{nat_tests}
 use Rattle.kfs_posix.specs.Opens.{moved_to}
 use Rattle.kfs_posix.specs.Writing.{PutDoes, behind, place_of}

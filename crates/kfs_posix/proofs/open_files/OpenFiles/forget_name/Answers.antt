@@ -1,10 +1,5 @@
-use Rattle.std.proofs.Common.{◌≡◌, ◌≤◌, ◌+◌, ap, sym, subst, ◌∙◌, T, arith}
-use Rattle.std.specs.Ordering.{nat_cmp}
-use Rattle.std.specs.FinMap.{find, is_sorted}
-use Rattle.std.proofs.lemmas.Bool.Decides.{nat_tests}
-use Rattle.kfs_posix.specs.declared.open_files.OpenFile.{OpenFile}
+use Rattle.std.proofs.Common.{◌≡◌, ◌+◌, ap, sym, subst, ◌∙◌, arith}
 use Rattle.kfs_posix.specs.Opens.{FilesState, with_file}
-use Rattle.kfs_posix.proofs.Slots.{found, beyond, sorted}
 use Rattle.kfs_posix.proofs.Forgetting.{Forgot, forgot_none, forgot_one, forgot_past, forgot_all}
 use Rattle.kfs_posix.proofs.open_files.OpenFiles.forget_name.Goals as goal
 use Rattle.kfs_posix.proofs.open_files.OpenFiles.forget_name.Goals.{in-Some, in_default}

@@ -1,7 +1,6 @@
 use Rattle.std.proofs.Common.{◌≡◌, ◌==◌}
 use Rattle.std.specs.List.{list_any}
 use Rattle.kfs_model.specs.Desk.{is_open}
-use Rattle.kfs_posix.specs.declared.open_files.OpenFile.{OpenFile}
 use Rattle.kfs_posix.specs.Opens.{desk_of}
 use Rattle.kfs_posix.proofs.open_files.OpenFiles.is_open.Given as goal
 

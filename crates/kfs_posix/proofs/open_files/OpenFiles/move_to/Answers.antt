@@ -1,4 +1,4 @@
-use Rattle.std.proofs.Common.{ap, sym, ◌∙◌}
+use Rattle.std.proofs.Common.{ap, ◌∙◌}
 use Rattle.kfs_posix.specs.Opens.{moved_at, with_file}
 use Rattle.kfs_posix.proofs.open_files.OpenFiles.move_to.Goals as goal
 

@@ -1,11 +1,8 @@
-use Rattle.std.proofs.Common.{◌≡◌, inl, inr, ℕ, ap, subst, sym, ◌∙◌, T, List, None, arith}
-use Rattle.std.specs.Ordering.{nat_cmp}
+use Rattle.std.proofs.Common.{◌≡◌, inl, inr, ap, subst, sym, ◌∙◌, T, arith}
 use Rattle.std.specs.Option.{option_map}
-use Rattle.std.specs.FinMap.{find, is_sorted}
 use Rattle.std.proofs.lemmas.Bool.{cases_lt}
 use Rattle.kfs_laws.proofs.Lookups.{same_numbers}
 use Rattle.kfs_posix.specs.Opens.{relengthed_file}
-use Rattle.kfs_posix.specs.declared.open_files.OpenFile.{OpenFile}
 use Rattle.kfs_posix.proofs.Maps.{mapped, find-map, sorted-map}
 use Rattle.kfs_posix.proofs.open_files.OpenFiles.set_length.Goals as goal
 

@@ -1,4 +1,5 @@
-use Rattle.std.proofs.Common.{max, ◌≤◌, ◌+◌, ◌-◌, ◌^◌, ◌∙◌, ap, min, subst}
+use Rattle.std.proofs.Common.{max, ◌≤◌, ◌∙◌, ap, subst}
+use Rattle.kv_base.specs.Counts.{one_more}
 use Rattle.kv_device.specs.Machine.{with_most_faults}
 use Rattle.kfs_tx.specs.Run.{Run}
 use Rattle.kfs_posix.specs.Book.{SessionState}
@@ -18,7 +19,7 @@ pub returns-clause-fewest : goal.returns-clause-fewest
 returns-clause-fewest g c = subst (λ (s : SessionState). s.book.run.machine.faults ≤ c.plan_fail.new.self.running.run.machine.most_faults) c.self.view_is c.plan_fail.ensures.fewest
 
 pub returns-clause-most : goal.returns-clause-most
-returns-clause-most g c = subst (λ (s : SessionState). c.plan_fail.new.self.running.run.machine.most_faults ≤ min (s.book.run.machine.faults + 1) (2 ^ 64 - 1)) c.self.view_is c.plan_fail.ensures.most
+returns-clause-most g c = subst (λ (s : SessionState). c.plan_fail.new.self.running.run.machine.most_faults ≤ one_more s.book.run.machine.faults) c.self.view_is c.plan_fail.ensures.most
 
 pub returns-clause-down : goal.returns-clause-down
 returns-clause-down g c = ap (λ (s : SessionState). s.book.down) c.self.view_is

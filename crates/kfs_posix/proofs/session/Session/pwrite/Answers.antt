@@ -1,11 +1,6 @@
-use Rattle.std.proofs.Common.{◌≡◌, ◌+◌, ◌^◌, ◌∙◌, None, refl, sym, ap, subst, arith, w64}
+use Rattle.std.proofs.Common.{◌^◌, subst, arith, w64}
 use Rattle.std.proofs.lemmas.Int.{to_z-of_z}
 use Rattle.kfs_path.specs.declared.call.Call.TheVariants as calls
-use Rattle.kfs_path.specs.declared.call.Reply.TheVariants as replies
-use Rattle.kfs_model.specs.declared.Line.TheVariants as lines
-use Rattle.kfs_model.specs.declared.Answer.TheVariants as answers
-use Rattle.kfs_posix.specs.Book.{book_of}
-use Rattle.kfs_posix.specs.Showing.{GoesOn}
 use Rattle.kfs_posix.proofs.Calls.{none_of}
 use Rattle.kfs_posix.proofs.Answered.{off_goes, off_keeps, aged_none, aged_by, age_in}
 use Rattle.std.proofs.Common.{Ok, Err}

@@ -1,13 +1,12 @@
-use Rattle.std.proofs.Common.{◌^◌, ◌∙◌, refl, sym, ap, subst, arith, w64}
-use Rattle.std.proofs.lemmas.Int.{to_z-of_z}
+use Rattle.std.proofs.Common.{◌^◌, ◌∙◌, refl, sym, ap, subst, arith}
 use Rattle.kfs_path.specs.declared.call.Call.TheVariants as calls
-use Rattle.kfs_path.specs.declared.call.Data.TheVariants.{Plain, Fill}
+use Rattle.kfs_path.specs.declared.call.Data.TheVariants.{Plain}
 use Rattle.kfs_model.specs.declared.Line.TheVariants as lines
 use Rattle.kfs_model.specs.declared.Answer.TheVariants as answers
 use Rattle.kfs_posix.specs.Showing.{GoesOn}
 use Rattle.kfs_posix.proofs.Calls.{none_of, any_cause}
 use Rattle.kfs_posix.proofs.Answered.{off_goes, off_keeps, aged_none, aged_by, named_goes}
-use Rattle.kfs_posix.proofs.Filling.{filled_goes, pfilled_goes}
+use Rattle.kfs_posix.proofs.Filling.{filled_goes}
 use Rattle.kfs_posix.proofs.WriteAnswers.{no_memory}
 use Rattle.kfs_posix.proofs.session.Session.write_data.Goals as goal
 
