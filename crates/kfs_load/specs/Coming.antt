@@ -1,6 +1,5 @@
--- What lines come to where nothing fails, and the line of their numbers.
-use Rattle.std.specs.Prelude.{ℕ, ◌+◌, Bool, true, false, not, List, [], ◌∷◌, ◌++◌, length, count_by, codes}
-use Rattle.std.specs.Fmt.{decimal}
+-- What lines come to where nothing fails.
+use Rattle.std.specs.Prelude.{ℕ, Bool, true, false, not, List, [], ◌∷◌, count_by}
 use Rattle.kfs_path.specs.declared.call.Call.{Call}
 use Rattle.kfs_path.specs.declared.call.Reply.{Reply}
 use Rattle.kfs_path.specs.declared.call.Reply.TheVariants as replies
@@ -11,8 +10,6 @@ use Rattle.kfs_model.specs.Desk.{empty_desk}
 use Rattle.kfs_model.specs.Step.{After, step}
 use Rattle.kfs_model.specs.Life.{Live, nothing_since, live_after, up_at}
 use Rattle.kfs_plain.specs.Tables.{free_number}
-use Rattle.kfs_plain.specs.Plain.{totals_of}
-use Rattle.kfs_plain.specs.declared.tree.Totals.{Totals}
 
 -- where a life begins that formats first
 abbrev pub first_live : Live
@@ -56,19 +53,3 @@ errors_in given = count_by is_error given
 
 abbrev pub dones_in : List Reply → ℕ
 dones_in given = count_by (λ reply. not (is_error reply)) given
-
--- a space and a number
-abbrev pub and_number : ℕ → List ℕ
-and_number n = 32 ∷ decimal n
-
--- the line of the numbers: the calls, those that were done, the errors, the number of the mount, and
--- what the tree holds
-abbrev pub numbers_text : ℕ → ℕ → ℕ → Totals → List ℕ
-numbers_text dones errors changes totals =
-    codes "calls" ++ and_number (dones + errors) ++ codes " ok" ++ and_number dones ++ codes " err" ++ and_number errors
-    ++ codes " changes" ++ and_number changes ++ codes " nodes" ++ and_number totals.nodes ++ codes " chunks" ++ and_number totals.chunks
-    ++ codes " bytes" ++ and_number totals.bytes ++ 10 ∷ []
-
--- the line for the lines of a load: what was replied, and the life behind its last line, a mount
-unfoldable pub lines_text : Limits → List Line → List ℕ
-lines_text k ls = numbers_text (dones_in (replies_to k first_live ls)) (errors_in (replies_to k first_live ls)) (behind_lines k first_live ls).mark (totals_of (behind_lines k first_live ls).world.tree)

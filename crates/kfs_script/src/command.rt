@@ -9,7 +9,7 @@ use kfs_path::{Call, Text};
 
 /// A command with one path: `mkdir`, `rmdir`, `unlink`, `stat`, `list`.
 #[derive(Clone, Copy, Debug, PartialEq, Eq)]
-pub enum PathCommand {
+pub(crate) enum PathCommand {
     Mkdir,
     Rmdir,
     Unlink,
@@ -19,7 +19,7 @@ pub enum PathCommand {
 
 /// A command with one number: `close`, `dup`, `fstat`, `fsync`, `@work`.
 #[derive(Clone, Copy, Debug, PartialEq, Eq)]
-pub enum NumberCommand {
+pub(crate) enum NumberCommand {
     Close,
     Dup,
     Fstat,
@@ -29,7 +29,7 @@ pub enum NumberCommand {
 
 /// A command alone: `sync`, `@mount`, `@tree`, `@room`.
 #[derive(Clone, Copy, Debug, PartialEq, Eq)]
-pub enum BareCommand {
+pub(crate) enum BareCommand {
     Sync,
     Mount,
     Tree,
@@ -38,7 +38,7 @@ pub enum BareCommand {
 
 /// A command of a script; those that are named here take words of several kinds.
 #[derive(Clone, Copy, Debug, PartialEq, Eq)]
-pub enum Command {
+pub(crate) enum Command {
     Path(PathCommand),
     Number(NumberCommand),
     Bare(BareCommand),

@@ -17,11 +17,11 @@ ghost use Rattle.kfs_model.specs.declared.Line.{Line};
 ghost use Rattle.kfs_script.specs.Script.{IsLine, line_of, number_to};
 ghost use Rattle.kfs_script.specs.Spelled.{spelled, Fits};
 
-pub use command::{BareCommand, Command, NumberCommand, PathCommand};
 pub use fault::ScriptFault;
 pub use kfs_model::{Answer, Line};
+pub use number::read_number;
 pub use script::{Script, read_script};
-pub use writing::write_answer;
+pub use writing::{write_answer, write_number};
 
 /// Each line is read from its spelling, where what it holds fits.
 pub fn spelled_lines_are_read()

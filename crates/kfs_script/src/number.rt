@@ -31,24 +31,20 @@ fn all_digits(word: &[u8]) -> bool
 
 /// The value of digits, unless it is above the limit.
 fn value_to(limit: u64, digits: &[u8]) -> Option<u64>
-    requires { limit < 2 ^ 63 }
-    ensures within { IfSome result (λ n. n ≤ limit) }
     ensures value { result ≡ (if nat_le (number_on 0 digits.now) limit then Some (number_on 0 digits.now) else None) }
+    ensures within { IfSome result (λ n. n ≤ limit) }
 {
     let mut value = 0u64;
     for digit in digits {
-        if value > limit / 10 {
-            return None;
-        }
-        value = 10 * value + u64::from(digit.saturating_sub(b'0'));
+        value = value.checked_mul(10)?;
+        value = value.checked_add(u64::from(digit.saturating_sub(b'0')))?;
     }
     (value <= limit).then_some(value)
 }
 
-/// The number that a word spells, unless it is above the limit.
+/// The number that a word spells in decimal digits without a leading zero, unless it is above the limit.
 #[tactic(auto, unfolding(crate::specs::Script::number_to))]
-pub(crate) fn number_to(limit: u64, word: &[u8]) -> Option<u64>
-    requires { limit < 2 ^ 63 }
+pub fn read_number(limit: u64, word: &[u8]) -> Option<u64>
     ensures value { result ≡ number_to limit word.now }
     ensures within { IfSome result (λ n. n ≤ limit) }
 {
@@ -64,7 +60,7 @@ pub(crate) fn number_of(word: &[u8]) -> Option<u32>
     ensures value { result ≡ number_of word.now }
     ensures within { IfSome result (λ n. n ≤ 1000000000) }
 {
-    let number = number_to(1_000_000_000, word)?;
+    let number = read_number(1_000_000_000, word)?;
     Some(number as u32)
 }
 
@@ -72,7 +68,7 @@ pub(crate) fn number_of(word: &[u8]) -> Option<u32>
 pub(crate) fn count_of(word: &[u8]) -> Option<u32>
     ensures { result ≡ count_of word.now }
 {
-    let count = number_to(1_048_576, word)?;
+    let count = read_number(1_048_576, word)?;
     Some(count as u32)
 }
 
@@ -92,7 +88,7 @@ pub(crate) fn blocks_of(word: &[u8]) -> Option<u16>
     ensures value { result ≡ blocks_of word.now }
     ensures within { IfSome result (λ n. (256 ≤ n) × (n ≤ 2048)) }
 {
-    let n = number_to(2048, word)?;
+    let n = read_number(2048, word)?;
     if n < 256 {
         return None;
     }
@@ -113,11 +109,11 @@ pub(crate) fn int_of(word: &[u8]) -> Option<i64>
 {
     match behind(b"-", word) {
         None => {
-            let n = number_to(9_223_372_036_854_775_807, word)?;
+            let n = read_number(9_223_372_036_854_775_807, word)?;
             Some(n as i64)
         }
         Some(digits) => {
-            let n = number_to(9_223_372_036_854_775_807, digits)?;
+            let n = read_number(9_223_372_036_854_775_807, digits)?;
             negative(n)
         }
     }

@@ -40,9 +40,10 @@ fn escape(out: &mut Text, bytes: &[u8]) -> Result<(), Memory>
     Ok(())
 }
 
-/// Writes a space and a number.
-fn and_number(alloc: Global, out: &mut Text, number: u64) -> Result<(), Memory>
-    ensures { OnOk result (out.new ≡ out.old ++ and_number number) }
+/// Adds a space and a number; unchanged for want of memory.
+pub fn write_number(alloc: Global, out: &mut Text, number: u64) -> Result<(), Memory>
+    ensures ok { OnOk result (out.new ≡ out.old ++ and_number number) }
+    ensures err { OnErr result (out.new ≡ out.old) }
 {
     let digits = format!(in alloc; " {number}")?;
     out.append(digits.as_bytes())
@@ -84,7 +85,7 @@ fn item(alloc: Global, out: &mut Text, item: &TreeItem) -> Result<(), Memory>
     if item.file {
         out.append(b"f ")?;
         path(out, &item.path)?;
-        and_number(alloc, out, item.length)?;
+        write_number(alloc, out, item.length)?;
     } else {
         out.append(b"d ")?;
         path(out, &item.path)?;
@@ -139,7 +140,7 @@ fn damage(alloc: Global, out: &mut Text, kind: &[u8], place: u64) -> Result<(), 
 {
     out.append(b"damaged ")?;
     out.append(kind)?;
-    and_number(alloc, out, place)?;
+    write_number(alloc, out, place)?;
     Ok(())
 }
 
@@ -169,7 +170,7 @@ fn numbers(alloc: Global, out: &mut Text, word: &[u8], numbers: &[u64]) -> Resul
 {
     out.append(word)?;
     for number in numbers {
-        and_number(alloc, out, *number)?;
+        write_number(alloc, out, *number)?;
     }
     out.push(b'\n')?;
     Ok(())
