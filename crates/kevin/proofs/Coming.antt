@@ -38,20 +38,20 @@ unfolding due
 due_load bytes seed count blocks = refl
 
 -- a text that is due is written, unless memory is wanting
-refused_comes : (task : Task) (old new : Side) (bytes : List ℕ) (status : ℕ) (text : List ℕ) (ending : Ending) → IfSome old.bytes (λ all. bytes ≡ all) → due task bytes ≡ Refused status text → (ending ≡ Prints status text) ⊎ (ending ≡ Quiet 7) → TaskComesTo task old new ending
-refused_comes task old new bytes status text ending is due_is (inl told) =
+refused_comes : (task : Task) (old new : Side) (bytes : List ℕ) (status : ℕ) (text : List ℕ) (ending : Ending) → IfSome old.bytes (λ all. bytes ≡ all) → due task bytes ≡ Refused status text → (ending ≡ Prints status text) ⊎ (ending ≡ Quiet 7) → new.faults ≡ old.faults → TaskComesTo task old new ending
+refused_comes task old new bytes status text ending is due_is (inl told) steady =
     let E : Ending → Type 0 = λ e. TaskComesTo task old new e in
     let D : Due → Type 0 = λ d. IsDue d old.bytes new.bytes status text in
-    subst E (sym told) (bytes, is, subst D (sym due_is) (refl, refl))
-refused_comes task old new bytes status text ending is due_is (inr quiet) =
+    subst E (sym told) (bytes, is, subst D (sym due_is) (refl, refl), steady)
+refused_comes task old new bytes status text ending is due_is (inr quiet) steady =
     let E : Ending → Type 0 = λ e. TaskComesTo task old new e in
-    subst E (sym quiet) (inr refl)
+    subst E (sym quiet) (inr (refl, steady))
 
 -- words that are no command
-pub words_refused : (old new : Side) (ending : Ending) → (ending ≡ Prints 1 bad_words) ⊎ (ending ≡ Quiet 7) → TaskComesTo Nothing old new ending
-words_refused old new ending is =
+pub words_refused : (old new : Side) (ending : Ending) → (ending ≡ Prints 1 bad_words) ⊎ (ending ≡ Quiet 7) → new.faults ≡ old.faults → TaskComesTo Nothing old new ending
+words_refused old new ending is steady =
     let all = told old.bytes in
-    refused_comes Nothing old new all.0 1 bad_words ending all.1 (due_words all.0) is
+    refused_comes Nothing old new all.0 1 bad_words ending all.1 (due_words all.0) is steady
 
 much_of : (left now : Option (List ℕ)) → GivesTooMuch left now → (bytes : List ℕ) × IfSome left (λ all. bytes ≡ all) × (script_limit < length bytes)
 much_of (Some all) now much =
@@ -60,10 +60,10 @@ much_of (Some all) now much =
 much_of None now much = (much.0, tt, much.2)
 
 -- a script that is too long
-pub length_refused : (old new : Side) (ending : Ending) → GivesTooMuch old.bytes new.bytes → (ending ≡ Prints 8 too_long) ⊎ (ending ≡ Quiet 7) → TaskComesTo Run old new ending
-length_refused old new ending much is =
+pub length_refused : (old new : Side) (ending : Ending) → GivesTooMuch old.bytes new.bytes → (ending ≡ Prints 8 too_long) ⊎ (ending ≡ Quiet 7) → new.faults ≡ old.faults → TaskComesTo Run old new ending
+length_refused old new ending much is steady =
     let all = much_of old.bytes new.bytes much in
-    refused_comes Run old new all.0 8 too_long ending all.1 (due_too_long all.0 all.2) is
+    refused_comes Run old new all.0 8 too_long ending all.1 (due_too_long all.0 all.2) is steady
 
 read_out : (left : Option (List ℕ)) (text : List ℕ) (now : Option (List ℕ)) → GivesAll left text now → IsReadOut left now
 read_out (Some all) text now given = given.1
@@ -79,16 +79,16 @@ is_due (Made seed count blocks) before now status text out is = is
 is_due (Answered blocks ls) before now status text out is = (out, is.1)
 
 -- what a script comes to, a run comes to that read it
-pub script_comes : (old new : Side) (bytes : List ℕ) (ending : Ending) → GivesAll old.bytes bytes new.bytes → length bytes ≤ script_limit → IsScriptDue (script_of bytes) ending → TaskComesTo Run old new ending
-script_comes old new bytes (Quiet status) given short is = inr is
-script_comes old new bytes (Prints status text) given short is =
+pub script_comes : (old new : Side) (bytes : List ℕ) (ending : Ending) → GivesAll old.bytes bytes new.bytes → length bytes ≤ script_limit → IsScriptDue (script_of bytes) ending → new.faults ≡ old.faults → TaskComesTo Run old new ending
+script_comes old new bytes (Quiet status) given short is steady = inr (is, steady)
+script_comes old new bytes (Prints status text) given short is steady =
     let D : Due → Type 0 = λ d. IsDue d old.bytes new.bytes status text in
-    (bytes, all_given old.bytes bytes new.bytes given, subst D (sym (due_script bytes short)) (is_due (due_by (script_of bytes)) old.bytes new.bytes status text (read_out old.bytes bytes new.bytes given) is))
+    (bytes, all_given old.bytes bytes new.bytes given, subst D (sym (due_script bytes short)) (is_due (due_by (script_of bytes)) old.bytes new.bytes status text (read_out old.bytes bytes new.bytes given) is), steady)
 
 -- a load comes to its line
-pub load_comes : (old new : Side) (seed count blocks : ℕ) (ending : Ending) → IsLoadDue seed count blocks ending → TaskComesTo (Make seed count blocks) old new ending
-load_comes old new seed count blocks (Quiet status) is = inr is
-load_comes old new seed count blocks (Prints status text) is =
+pub load_comes : (old new : Side) (seed count blocks : ℕ) (ending : Ending) → IsLoadDue seed count blocks ending → new.faults ≡ old.faults → TaskComesTo (Make seed count blocks) old new ending
+load_comes old new seed count blocks (Quiet status) is steady = inr (is, steady)
+load_comes old new seed count blocks (Prints status text) is steady =
     let all = told old.bytes in
     let D : Due → Type 0 = λ d. IsDue d old.bytes new.bytes status text in
-    (all.0, all.1, subst D (sym (due_load all.0 seed count blocks)) is)
+    (all.0, all.1, subst D (sym (due_load all.0 seed count blocks)) is, steady)

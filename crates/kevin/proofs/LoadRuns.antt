@@ -19,7 +19,7 @@ use Rattle.kfs_plain.specs.declared.tree.Totals.{Totals}
 use Rattle.kfs_posix.specs.Book.{Book}
 use Rattle.kfs_posix.specs.Opens.{desk_of}
 use Rattle.kfs_posix.specs.Showing.{ShowsLive, ShowsNow}
-use Rattle.kfs_load.specs.Coming.{first_live, done_call, behind_line, behind_lines, replies_to, is_error, errors_in, dones_in, numbers_text, lines_text}
+use Rattle.kfs_load.specs.Coming.{first_live, done_call, behind_line, behind_lines, replies_to, is_error, errors_in, dones_in}
 use Rattle.kfs_load.specs.Generator.{IsLoadRest, load_rest}
 use Rattle.kfs_load.proofs.LineLaws.{Place, Idle, Opened, Over, Follow, HoldsOf, every_line, few_lines, rest_follows, rest_is}
 use Rattle.kfs_load.proofs.Going.{AreOne, Held, IsGoing, CallGoes, call_goes}
@@ -31,7 +31,7 @@ use Rattle.kevin.specs.declared.load.Tally.{Tally}
 use Rattle.kfs_script.specs.Script.{IsLine, is_format}
 use Rattle.kevin.specs.Seats.{IsDown, shows_seat, seat_limits, seat_age}
 use Rattle.kevin.specs.Numbers.{limits_of}
-use Rattle.kevin.specs.Load.{load_text}
+use Rattle.kevin.specs.Load.{numbers_text, lines_text, load_text}
 use Rattle.kevin.specs.Counts.{counted, is_down, Counts, CountsReply, plain_behind, IsCounted}
 
 -- ---- what a session knows of its tree

@@ -1,7 +1,8 @@
 -- Lines on a session or its device, as events of a life.
-use Rattle.std.proofs.Common.{◌≡◌, ◌<◌, ◌≤◌, ◌+◌, ◌-◌, ◌^◌, ◌⊎◌, inl, inr, ◌∙◌, ℕ, max, min, Bool, true, false, [], ◌∷◌, Some, refl, sym, ap, subst, arith, nat_le}
+use Rattle.std.proofs.Common.{◌≡◌, ◌<◌, ◌≤◌, ◌+◌, ◌-◌, ◌^◌, ◌⊎◌, inl, inr, ◌∙◌, ℕ, max, Bool, true, false, [], ◌∷◌, Some, refl, sym, ap, subst, arith, nat_le}
 use Rattle.std.specs.Prelude.{IsTrue, ◌&&◌}
 use Rattle.std.proofs.lemmas.Bool.Decides.{nat_tests}
+use Rattle.kv_base.specs.Counts.{one_more}
 use Rattle.kv_device.specs.Objects.{Objects}
 use Rattle.kv_device.specs.Machine.{Machine, restarted, begun, fresh, with_most_cuts, with_most_faults}
 use Rattle.kv_device.specs.MapDevice.{machine_of}
@@ -154,7 +155,7 @@ fails_at : (l : Limits) (s : State) (now : Now) (cause : Cause) → IsTrue (is_a
 fails_at l s (Up live) cause armed = (cause, refl, armed, refl)
 fails_at l s (Down past may) cause armed = (cause, refl, armed, refl)
 
-rose_by : (old new most : ℕ) (armed : Bool) → most ≤ old + one_if armed → old ≤ most → most < 2 ^ 63 → new ≤ most → min (old + 1) (2 ^ 64 - 1) ≤ new → IsTrue armed × (most ≤ new)
+rose_by : (old new most : ℕ) (armed : Bool) → most ≤ old + one_if armed → old ≤ most → most < 2 ^ 63 → new ≤ most → new ≡ one_more old → IsTrue armed × (most ≤ new)
 rose_by old new most armed bound low few le least = by armed bound
   where
     more : old < new
@@ -307,7 +308,7 @@ cut_goes old new n how goes planned room same young = record {
       (it.0, it.1, it.2, room, plan_age (age_of (running_in old)) (age_of (running_in new)) old.book.run.machine.most_cuts old.book.run.machine.most_faults new.book.run.machine.most_cuts new.book.run.machine.most_faults same cuts faults);
 }
 
-pub fail_goes : (old new : SessionState) (kind n : ℕ) → (old.book.run.machine.faults + 1 < 2 ^ 63 → GoesOn old.book (lines.Fail kind n) (answers.Reply replies.Done) new.book) → new.book.run.machine ≡ with_most_faults old.book.run.machine new.book.run.machine.most_faults → new.book.run.machine.most_faults ≤ min (old.book.run.machine.faults + 1) (2 ^ 64 - 1) → limits_of new.book ≡ limits_of old.book → age_of (running_in new) ≡ age_of (running_in old) → seat_age (Mounted old) < 2 ^ 63 - 2 ^ 40 → SeatGoes (Mounted old) (lines.Fail kind n) (answers.Reply replies.Done) (Mounted new)
+pub fail_goes : (old new : SessionState) (kind n : ℕ) → (old.book.run.machine.faults + 1 < 2 ^ 63 → GoesOn old.book (lines.Fail kind n) (answers.Reply replies.Done) new.book) → new.book.run.machine ≡ with_most_faults old.book.run.machine new.book.run.machine.most_faults → new.book.run.machine.most_faults ≤ one_more old.book.run.machine.faults → limits_of new.book ≡ limits_of old.book → age_of (running_in new) ≡ age_of (running_in old) → seat_age (Mounted old) < 2 ^ 63 - 2 ^ 40 → SeatGoes (Mounted old) (lines.Fail kind n) (answers.Reply replies.Done) (Mounted new)
 fail_goes old new kind n goes planned bound room same young = record {
   each = λ s shows.
       let most = most_le (Mounted old) in
@@ -355,7 +356,7 @@ bare_cut old new n how planned young =
           );
     }
 
-pub bare_fail : (old new : MapDevice) (kind n : ℕ) → machine_of new ≡ with_most_faults (machine_of old) (machine_of new).most_faults → (machine_of old).faults ≤ (machine_of new).most_faults → (machine_of new).most_faults ≤ min ((machine_of old).faults + 1) (2 ^ 64 - 1) → seat_age (Bare old) < 2 ^ 63 - 2 ^ 40 → SeatGoes (Bare old) (lines.Fail kind n) (answers.Reply replies.Done) (Bare new)
+pub bare_fail : (old new : MapDevice) (kind n : ℕ) → machine_of new ≡ with_most_faults (machine_of old) (machine_of new).most_faults → (machine_of old).faults ≤ (machine_of new).most_faults → (machine_of new).most_faults ≤ one_more (machine_of old).faults → seat_age (Bare old) < 2 ^ 63 - 2 ^ 40 → SeatGoes (Bare old) (lines.Fail kind n) (answers.Reply replies.Done) (Bare new)
 bare_fail old new kind n planned least bound young =
     let others = ap (λ (x : Machine). x.most_cuts) planned in
     let cuts = ap (λ (x : Machine). x.cuts) planned in

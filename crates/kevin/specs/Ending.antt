@@ -108,11 +108,11 @@ abbrev pub LeavesSource : List (List ℕ) → Side → Side → Type 0
 LeavesSource words old new = (task_of words ≡ Run → ⊥) → new ≡ old
 
 -- what a task comes to before its text is written: nothing to write where the source failed (4) or
--- memory was wanting (7), else what is due for it and the source's bytes
+-- memory was wanting (7), else what is due for it and the source's bytes; a source that failed is told
 abbrev pub TaskComesTo : Task → Side → Side → Ending → Type 0
-TaskComesTo task old new (Quiet status) = FailsToRead task old new status ⊎ (status ≡ 7)
+TaskComesTo task old new (Quiet status) = FailsToRead task old new status ⊎ ((status ≡ 7) × (new.faults ≡ old.faults))
 TaskComesTo task old new (Prints status text) =
-    (bytes : List ℕ) × IfSome old.bytes (λ all. bytes ≡ all) × IsDue (due task bytes) old.bytes new.bytes status text
+    (bytes : List ℕ) × IfSome old.bytes (λ all. bytes ≡ all) × IsDue (due task bytes) old.bytes new.bytes status text × (new.faults ≡ old.faults)
 
 abbrev pub ComesTo : List (List ℕ) → Side → Side → Ending → Type 0
 ComesTo words old new ending = TaskComesTo (task_of words) old new ending

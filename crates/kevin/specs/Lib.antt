@@ -8,3 +8,4 @@ pub mod Lines
 pub mod Seats
 pub mod Causes
 pub mod Counts
+pub mod Memory

@@ -1,9 +1,10 @@
 -- What the outside of the program gives and takes.
-use Rattle.std.specs.Prelude.{ℕ, ◌+◌, ◌-◌, ◌^◌, ◌≡◌, ◌≤◌, min, List, [], ◌++◌, Option, Some, IfSome}
+use Rattle.std.specs.Prelude.{ℕ, ◌≡◌, ◌≤◌, List, [], ◌++◌, Option, Some, IfSome}
+use Rattle.kv_base.specs.Counts.{one_more}
 
 -- a count of faults rose; at its greatest it stays
 abbrev pub HasRisen : ℕ → ℕ → Type 0
-HasRisen before now = min (before + 1) (2 ^ 64 - 1) ≤ now
+HasRisen before now = one_more before ≤ now
 
 -- the bytes given are the first of those that were left, and the others are left now
 abbrev pub Gives : Option (List ℕ) → List ℕ → Option (List ℕ) → Type 0

@@ -1,5 +1,5 @@
 -- What reading a script to its end gives.
-use Rattle.std.specs.Prelude.{ℕ, ◌<◌, List, length, Option}
+use Rattle.std.specs.Prelude.{ℕ, ◌≡◌, ◌<◌, List, length, Option}
 use Rattle.kevin.specs.declared.reading.Unread.{Unread}
 use Rattle.kevin.specs.declared.reading.Unread.TheVariants.{Failed, TooLong, Memory}
 use Rattle.kevin.specs.declared.outside.OutsideFault.{OutsideFault}
@@ -14,11 +14,12 @@ script_limit = 16777216
 abbrev pub GivesTooMuch : Option (List ℕ) → Option (List ℕ) → Type 0
 GivesTooMuch before now = (given : List ℕ) × Gives before given now × (script_limit < length given)
 
--- why the script was not read to its end: the source's bytes and faults before, the cause, and both now
+-- why the script was not read to its end: the source's bytes and faults before, the cause, and both now; the
+-- source failed exactly where that is told
 abbrev pub StopsReading : Option (List ℕ) → ℕ → Unread → Option (List ℕ) → ℕ → Type 0
 StopsReading before count Failed now count_now = HasRisen count count_now
-StopsReading before count TooLong now count_now = GivesTooMuch before now
-StopsReading before count Memory now count_now = Unit {0}
+StopsReading before count TooLong now count_now = GivesTooMuch before now × (count_now ≡ count)
+StopsReading before count Memory now count_now = count_now ≡ count
 
 abbrev pub unread_of : OutsideFault → Unread
 unread_of faults.Failed = Failed

@@ -1,10 +1,11 @@
 // Loads: the lines of a generator on a session, and on a plain tree beside it.
 ghost use Rattle.std.specs.Prelude.{◌≡◌, ◌≤◌, ◌<◌, ◌+◌, ◌++◌, ◌^◌, length, drop, IfOk, OnOk};
 ghost use Rattle.kfs_model.specs.Life.{newborn};
-ghost use Rattle.kfs_load.specs.Coming.{first_live, and_number, numbers_text};
+ghost use Rattle.kfs_script.specs.AnswerText.{and_number};
+ghost use Rattle.kfs_load.specs.Coming.{first_live};
 ghost use Rattle.kfs_load.specs.Generator.{IsLoadRest};
 ghost use Rattle.kevin.specs.Seats.{shows_seat, seat_limits, seat_age};
-ghost use Rattle.kevin.specs.Load.{load_text};
+ghost use Rattle.kevin.specs.Load.{numbers_text, load_text};
 ghost use Rattle.kevin.specs.Counts.{Counts, CountsReply, plain_behind, IsCounted};
 
 use crate::host::Host;
@@ -12,7 +13,7 @@ use crate::seat::Seat;
 use kfs_load::make_script;
 use kfs_path::Reply;
 use kfs_plain::{PlainTree, Totals};
-use kfs_script::{Answer, Line};
+use kfs_script::{Answer, Line, write_number};
 use kssd_layout::Layout;
 use kv_base::{Memory, Text};
 use std::alloc::Global;
@@ -113,9 +114,8 @@ fn run_lines(
 fn add(alloc: Global, line: &mut Text, word: &[u8], number: u64) -> Result<(), Memory>
     ensures { OnOk result (line.new ≡ line.old ++ word.now ++ and_number number) }
 {
-    let digits = format!(in alloc; " {number}")?;
     line.append(word)?;
-    line.append(digits.as_bytes())
+    write_number(alloc, line, number)
 }
 
 // The line of the numbers.

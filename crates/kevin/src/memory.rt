@@ -1,6 +1,5 @@
 // A shelf, a source and a sink in memory, which fail where they were told to.
-ghost use Rattle.std.specs.Prelude.{◌≡◌, ◌≤◌, IfOk, IfErr, OnOk, OnErr, Some, [], min, length, take, drop, vec_len, vec_capacity};
-ghost use Rattle.kevin.specs.Outside.{HasRisen};
+ghost use Rattle.std.specs.Prelude.{◌≡◌, ◌≤◌, IfOk, IfErr, OnOk, OnErr, Some, [], min, length, take, vec_len, vec_capacity};
 ghost use Rattle.kevin.specs.declared.outside.OutsideFault.TheVariants.{Failed};
 
 use crate::outside::{OutsideFault, Shelf, Sink, Source};
@@ -16,8 +15,12 @@ struct Failing {
 }
 
 impl Failing {
+    ghost use Rattle.std.specs.Prelude.{◌==◌, true, false};
+    ghost use Rattle.std.specs.List.{list_any};
+    ghost use Rattle.kevin.specs.Memory.{plan_of, first_plan, is_struck, called, failed};
+
     fn new(alloc: Global, fails: &[u32]) -> Result<Failing, Memory>
-        ensures { IfOk result (λ f. f.faults ≡ 0) }
+        ensures { IfOk result (λ f. plan_of f ≡ first_plan fails.now) }
     {
         Ok(Failing {
             calls: 0,
@@ -28,9 +31,11 @@ impl Failing {
 
     // Begins a call.
     fn begin(&mut self) -> Result<(), OutsideFault>
-        ensures steady { OnOk result (self.new.faults ≡ self.old.faults) }
+        ensures ok { OnOk result (plan_of self.new ≡ called (plan_of self.old)) }
+        ensures allowed { OnOk result (is_struck (plan_of self.old) ≡ false) }
+        ensures err { OnErr result (plan_of self.new ≡ failed (called (plan_of self.old))) }
+        ensures struck { OnErr result (is_struck (plan_of self.old) ≡ true) }
         ensures failed { IfErr result (λ fault. fault ≡ Failed) }
-        ensures risen { OnErr result (HasRisen self.old.faults self.new.faults) }
     {
         self.calls = self.calls.saturating_add(1);
         if self.is_planned() {
@@ -40,14 +45,16 @@ impl Failing {
     }
 
     // The call that began is one that fails.
-    fn is_planned(&self) -> bool {
+    fn is_planned(&self) -> bool
+        ensures { result ≡ list_any (λ n. n == self.now.calls) self.now.fails.items }
+    {
         self.fails.iter().any(|n| u64::from(*n) == self.calls)
     }
 
     // Counts a fault.
     fn fail(&mut self) -> OutsideFault
         ensures fault { result ≡ Failed }
-        ensures risen { HasRisen self.old.faults self.new.faults }
+        ensures plan { plan_of self.new ≡ failed (plan_of self.old) }
     {
         self.faults = self.faults.saturating_add(1);
         OutsideFault::Failed
@@ -64,11 +71,14 @@ pub struct MemShelf {
 }
 
 impl MemShelf {
+    ghost use Rattle.kevin.specs.Memory.{shelf_of, first_plan};
+
     /// A shelf with these bytes. A put of more than `room` bytes fails, and so do the calls that
     /// `fails` numbers, from 1.
     pub fn new(alloc: Global, bytes: &[u8], room: usize, fails: &[u32]) -> Result<MemShelf, Memory>
         ensures held { IfOk result (λ s. ⟦<MemShelf as Shelf>⟧.held s ≡ Some bytes.now) }
         ensures faults { IfOk result (λ s. ⟦<MemShelf as Shelf>⟧.faults s ≡ 0) }
+        ensures shelf { IfOk result (λ s. shelf_of s ≡ record { bytes = bytes.now; room = room; plan = first_plan fails.now }) }
     {
         let mut held = Vec::with_capacity(alloc, room.max(bytes.len()))?;
         held.extend_from_slice(bytes)?;
@@ -88,16 +98,29 @@ impl MemShelf {
 }
 
 impl Shelf for MemShelf {
+    ghost use Rattle.std.specs.Prelude.{true, false};
+    ghost use Rattle.kevin.specs.Memory.{shelf_of, is_struck, after_take, refuses_put, after_put};
+
     ghost held = { λ s. Some s.held.items };
 
     ghost faults = { λ s. s.failing.faults };
 
-    fn take(&mut self, alloc: Global) -> Result<Vec<u8>, OutsideFault> {
+    fn take(&mut self, alloc: Global) -> Result<Vec<u8>, OutsideFault>
+        ensures ok { IfOk result (λ bytes. bytes.items ≡ (shelf_of self.old).bytes) }
+        ensures allowed { OnOk result (is_struck (shelf_of self.old).plan ≡ false) }
+        ensures struck { IfErr result (λ fault. fault ≡ Failed → is_struck (shelf_of self.old).plan ≡ true) }
+        ensures after { shelf_of self.new ≡ after_take (shelf_of self.old) }
+    {
         self.failing.begin()?;
         Ok(Vec::from_slice(alloc, self.held.as_slice())?)
     }
 
-    fn put(&mut self, bytes: &[u8]) -> Result<(), OutsideFault> {
+    fn put(&mut self, bytes: &[u8]) -> Result<(), OutsideFault>
+        ensures allowed { OnOk result (refuses_put (shelf_of self.old) bytes.now ≡ false) }
+        ensures refused { OnErr result (refuses_put (shelf_of self.old) bytes.now ≡ true) }
+        ensures failed { IfErr result (λ fault. fault ≡ Failed) }
+        ensures after { shelf_of self.new ≡ after_put (shelf_of self.old) bytes.now }
+    {
         self.failing.begin()?;
         if bytes.len() > self.room {
             return Err(self.failing.fail());
@@ -118,10 +141,13 @@ pub struct MemSource {
 }
 
 impl MemSource {
+    ghost use Rattle.kevin.specs.Memory.{source_of, first_plan};
+
     /// A source of these bytes. The calls that `fails` numbers, from 1, fail.
     pub fn new(alloc: Global, bytes: &[u8], fails: &[u32]) -> Result<MemSource, Memory>
         ensures left { IfOk result (λ s. ⟦<MemSource as Source>⟧.left s ≡ Some bytes.now) }
         ensures faults { IfOk result (λ s. ⟦<MemSource as Source>⟧.faults s ≡ 0) }
+        ensures source { IfOk result (λ s. source_of s ≡ record { left = bytes.now; plan = first_plan fails.now }) }
     {
         Ok(MemSource {
             bytes: Vec::from_slice(alloc, bytes)?,
@@ -132,11 +158,22 @@ impl MemSource {
 }
 
 impl Source for MemSource {
+    ghost use Rattle.std.specs.Prelude.{drop, true, false};
+    ghost use Rattle.kevin.specs.Outside.{Gives};
+    ghost use Rattle.kevin.specs.Memory.{source_of, is_struck, count_read, after_read};
+
     ghost left = { λ s. Some (drop s.at s.bytes.items) };
 
     ghost faults = { λ s. s.failing.faults };
 
-    fn read(&mut self, into: &mut [u8]) -> Result<usize, OutsideFault> {
+    fn read(&mut self, into: &mut [u8]) -> Result<usize, OutsideFault>
+        ensures count { IfOk result (λ n. n ≡ count_read (source_of self.old) (length into.old)) }
+        ensures moved { IfOk result (λ n. Gives (Some (source_of self.old).left) (take n into.new) (Some (source_of self.new).left)) }
+        ensures allowed { OnOk result (is_struck (source_of self.old).plan ≡ false) }
+        ensures struck { OnErr result (is_struck (source_of self.old).plan ≡ true) }
+        ensures failed { IfErr result (λ fault. fault ≡ Failed) }
+        ensures after { source_of self.new ≡ after_read (source_of self.old) (length into.old) }
+    {
         self.failing.begin()?;
         let n = fill_front(into, &self.bytes[self.at..]);
         self.at += n;
@@ -165,11 +202,14 @@ pub struct MemSink {
 }
 
 impl MemSink {
+    ghost use Rattle.kevin.specs.Memory.{sink_of, first_plan};
+
     /// An empty sink. A write takes at most the room that is left, and the calls that `fails`
     /// numbers, from 1, fail.
     pub fn new(alloc: Global, room: usize, fails: &[u32]) -> Result<MemSink, Memory>
         ensures got { IfOk result (λ s. ⟦<MemSink as Sink>⟧.got s ≡ Some []) }
         ensures faults { IfOk result (λ s. ⟦<MemSink as Sink>⟧.faults s ≡ 0) }
+        ensures sink { IfOk result (λ s. sink_of s ≡ record { got = []; room = room; plan = first_plan fails.now }) }
     {
         Ok(MemSink {
             got: Vec::with_capacity(alloc, room)?,
@@ -187,11 +227,20 @@ impl MemSink {
 }
 
 impl Sink for MemSink {
+    ghost use Rattle.std.specs.Prelude.{true, false};
+    ghost use Rattle.kevin.specs.Memory.{sink_of, is_struck, count_written, after_write};
+
     ghost got = { λ s. Some s.got.items };
 
     ghost faults = { λ s. s.failing.faults };
 
-    fn write(&mut self, bytes: &[u8]) -> Result<usize, OutsideFault> {
+    fn write(&mut self, bytes: &[u8]) -> Result<usize, OutsideFault>
+        ensures count { IfOk result (λ n. n ≡ count_written (sink_of self.old) bytes.now) }
+        ensures allowed { OnOk result (is_struck (sink_of self.old).plan ≡ false) }
+        ensures struck { OnErr result (is_struck (sink_of self.old).plan ≡ true) }
+        ensures failed { IfErr result (λ fault. fault ≡ Failed) }
+        ensures after { sink_of self.new ≡ after_write (sink_of self.old) bytes.now }
+    {
         self.failing.begin()?;
         let n = bytes.len().min(self.room - self.got.len());
         if n == 0 && !bytes.is_empty() {

@@ -23,7 +23,7 @@ returns-then-n-bytes-clause-stops g c =
     let within : c.in_ok-n.n ≤ length c.read.new.into = omega (arith, c.in_ok-n.ensures.within) in
     let same : length c.bytes.result.now ≡ length c.loop-piece.text = ap length c.bytes.ensures in
     let long : 16777216 - length c.loop-piece.text < c.in_ok-n.n = omega arith in
-    gives_too_much _ c.loop-piece.text _ c.read.new.into _ c.in_ok-n.n c.loop-piece.invariant.given c.in_ok-n.ensures.moved c.loop-piece.invariant.limit within long
+    (gives_too_much _ c.loop-piece.text _ c.read.new.into _ c.in_ok-n.n c.loop-piece.invariant.given c.in_ok-n.ensures.moved c.loop-piece.invariant.limit within long, c.in_ok-n.ensures.steady ∙ c.loop-piece.invariant.steady)
 
 pub loop-piece-smaller : goal.loop-piece-smaller
 loop-piece-smaller g c =
