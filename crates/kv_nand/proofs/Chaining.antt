@@ -9,7 +9,7 @@ use Rattle.kv_nand.specs.Faults.{flash_fault}
 use Rattle.kv_nand.specs.Flash.{Flash, IsSound}
 use Rattle.kv_base.specs.Counts.{one_more}
 use Rattle.kv_nand.specs.Calls.{Falls, programmed, erased, has_read, ReadFault}
-use Rattle.kv_nand.specs.Working.{Counts, Works, Stops, StopsBy, worked}
+use Rattle.kv_nand.specs.Working.{Counts, Works, Stops, StopsBy, worked, ops_more, reads_more}
 
 one_more_at_most : (n : ℕ) → one_more n ≤ n + 1
 one_more_at_most n = omega arith
@@ -56,6 +56,18 @@ one_read old new sound ops reads = record {
   reads_at_most = omega (arith, one_more_at_most old.reads);
   reads_at_least = omega (arith, one_more_at_least old.reads sound.reads);
 }
+
+-- exactly so many operations and then so many more
+pub ops_then_ops : (a b c : Flash) (first more : ℕ) → b.ops ≡ ops_more a first → c.ops ≡ ops_more b more → c.ops ≡ ops_more a (first + more)
+ops_then_ops a b c first more ab bc = omega (arith, ab, bc)
+
+-- exactly so many reads and then so many more
+pub reads_then_reads : (a b c : Flash) (first more : ℕ) → b.reads ≡ reads_more a first → c.reads ≡ reads_more b more → c.reads ≡ reads_more a (first + more)
+reads_then_reads a b c first more ab bc = omega (arith, ab, bc)
+
+-- no operation is exactly none more
+pub works_no_ops : (old new : Flash) (reads : ℕ) → IsSound old → Works old new 0 reads → new.ops ≡ ops_more old 0
+works_no_ops old new reads sound h = omega (arith, h.counts.ops_at_most, h.counts.ops_at_least, sound.ops)
 
 pub works_then_works : (a b c : Flash) (ops reads more_ops more_reads : ℕ) → Works a b ops reads → Works b c more_ops more_reads → Works a c (ops + more_ops) (reads + more_reads)
 works_then_works a b c ops reads more_ops more_reads ab bc = record {

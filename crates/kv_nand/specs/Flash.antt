@@ -1,5 +1,5 @@
 -- The flash as a state, and what a cut may leave of it.
-use Rattle.std.specs.Prelude.{◌≡◌, ◌≢◌, ◌⊎◌, ◌<◌, ◌≤◌, ◌/◌, ◌==◌, ◌^◌, ℕ, Bool, List, length, Option, if◌then◌else◌}
+use Rattle.std.specs.Prelude.{◌≡◌, ◌≢◌, ◌⊎◌, ◌<◌, ◌≤◌, ◌/◌, ◌==◌, ◌^◌, ℕ, Bool, List, length, get_or, Option, if◌then◌else◌}
 use Rattle.kv_nand.specs.declared.nand.OpKind.{OpKind}
 
 pub data PageState : Type 0 where
@@ -48,10 +48,14 @@ pub record LeftByErase (old : Image) (block : ℕ) (new : Image) : Type 0 where
   pub elsewhere : (q : ℕ) → q / 32 ≢ block → new q ≡ old q
   pub here : (q : ℕ) → q / 32 ≡ block → (new q ≡ old q) ⊎ ((new q ≡ Erased) ⊎ (new q ≡ Cut))
 
+-- each number is a byte
+abbrev pub AreBytes : List ℕ → Type 0
+AreBytes bytes = (i : ℕ) → get_or bytes i 0 < 256
+
 -- a whole page has 4,160 bytes
 abbrev pub IsPageState : PageState → Type 0
 IsPageState Erased = Unit {0}
-IsPageState (Whole bytes) = length bytes ≡ 4160
+IsPageState (Whole bytes) = (length bytes ≡ 4160) × AreBytes bytes
 IsPageState Cut = Unit {0}
 
 -- what holds of each flash: whole pages have their bytes, counts within their bounds, and each number within its type

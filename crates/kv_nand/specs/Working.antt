@@ -1,9 +1,17 @@
 -- What a call that makes several operations leaves of the flash, and how many it began.
-use Rattle.std.specs.Prelude.{◌≡◌, ◌⊎◌, ◌≤◌, ◌+◌, ℕ, true, false}
+use Rattle.std.specs.Prelude.{◌≡◌, ◌⊎◌, ◌≤◌, ◌+◌, ◌-◌, ◌^◌, ℕ, min, true, false}
 use Rattle.kv_nand.specs.declared.fault.FlashFault.{FlashFault}
 use Rattle.kv_nand.specs.declared.fault.FlashFault.TheVariants.{Off, Failed, Memory}
 use Rattle.kv_nand.specs.Flash.{Flash}
 use Rattle.kv_base.specs.Counts.{one_more}
+
+-- the count of operations after exactly so many more, which stays at 2^64 - 1
+abbrev pub ops_more : Flash → ℕ → ℕ
+ops_more f n = min (f.ops + n) (2 ^ 64 - 1)
+
+-- the count of reads after exactly so many more, which stays at 2^64 - 1
+abbrev pub reads_more : Flash → ℕ → ℕ
+reads_more f n = min (f.reads + n) (2 ^ 64 - 1)
 
 -- at most so many operations and reads were begun, and no count fell
 pub record Counts (old new : Flash) (ops reads : ℕ) : Type 0 where

@@ -14,7 +14,7 @@ slot_is_page slot = by slot.kind
   where
     by : (kind : PageKind) → IsPageState (state_by kind slot.bytes)
     by kinds.Erased = tt
-    by kinds.Whole = slot.size
+    by kinds.Whole = (slot.size, slot.small)
     by kinds.Cut = tt
 
 pub image_is_pages : (slots : List Slot) (q : ℕ) → IsPageState (image_of slots q)

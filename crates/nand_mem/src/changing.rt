@@ -4,7 +4,7 @@ ghost use Rattle.kv_nand.specs.Calls.{Shows};
 ghost use Rattle.nand_mem.specs.Slots.{state_of, image_of};
 ghost use Rattle.nand_mem.specs.Left.{program_left, erase_left, with_block};
 
-use crate::slot::Slot;
+use crate::slot::{Slot, are_bytes};
 use kv_base::PageData;
 use kv_nand::{Outcome, PageKind};
 
@@ -22,7 +22,7 @@ pub fn read_slot(slot: &Slot, into: &mut PageData) -> PageKind
 pub fn program_slot(slot: &mut Slot, from: &PageData, outcome: Outcome)
     ensures { state_of slot.new ≡ program_left outcome (state_of slot.old) from.now }
 {
-    let _whole = from.bytes();
+    are_bytes(from.bytes());
     match outcome {
         Outcome::None => {}
         Outcome::Part | Outcome::Mix => slot.kind = PageKind::Cut,

@@ -1,5 +1,6 @@
 // The place of one page in memory: its state, and bytes that count where it is whole.
 ghost use Rattle.kv_base.specs.Sizes.{IsPage};
+ghost use Rattle.kv_nand.specs.Flash.{AreBytes};
 
 use kv_base::PageData;
 use kv_nand::PageKind;
@@ -10,4 +11,12 @@ pub struct Slot {
     pub kind: PageKind,
     pub bytes: PageData,
     pub ghost size: { IsPage bytes },
+    pub ghost small: { AreBytes bytes },
+}
+
+/// Each number of a page in memory is a byte.
+pub fn are_bytes(bytes: &[u8])
+    ensures { AreBytes bytes.now }
+{
+    let _length = bytes.len();
 }

@@ -9,7 +9,7 @@ ghost use Rattle.nand_mem.specs.State.{IsMem, flash_of, mem_of};
 
 use crate::changing::{erase_block, program_slot, read_slot};
 use crate::plan::{CutPlan, FailPlan, Fate, cut_passed, fail_passed, next_fate};
-use crate::slot::Slot;
+use crate::slot::{Slot, are_bytes};
 use kv_base::{Memory, PageData};
 use kv_nand::{NandFault, OpKind, Outcome, PageKind};
 use std::alloc::Global;
@@ -42,7 +42,7 @@ fn erased_slot(alloc: Global) -> Result<Slot, Memory>
     ensures { IfOk result (λ slot. state_of slot ≡ Erased) }
 {
     let bytes = PageData::new(alloc)?;
-    let _whole = bytes.bytes();
+    are_bytes(bytes.bytes());
     Ok(Slot {
         kind: PageKind::Erased,
         bytes,
