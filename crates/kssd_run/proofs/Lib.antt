@@ -8,3 +8,4 @@ pub mod Taking
 pub mod Written
 pub mod Stepping
 pub mod RunBlocks
+pub mod Merely

@@ -1,5 +1,5 @@
 ghost use Rattle.std.specs.Prelude.{◌≡◌, ◌≢◌, ◌<◌, ◌≤◌, ◌+◌, ◌*◌, ◌/◌, ◌↔◌, ◌∷◌, ◌++◌, [], ℕ, List, true, false, not, nat_lt, length, IfOk, OnOk, IfErr};
-ghost use Rattle.kv_nand.specs.Working.{Works, Stops};
+ghost use Rattle.kv_nand.specs.Working.{Works, Stops, ops_more};
 ghost use Rattle.kssd_entry.specs.declared.entry.Entry as fed_entry;
 ghost use Rattle.kssd_model.specs.Rising.{is_rising};
 ghost use Rattle.kssd_model.specs.RunPages.{first_key, AreRunBlocks};
@@ -127,10 +127,11 @@ impl RunWriter {
         requires room { pages_written self.old < 32 * length (run_blocks self.old) }
         requires blocks { AreRunBlocks (N.flash nand.old).blocks (run_blocks self.old) }
         requires device { (256 ≤ (N.flash nand.old).blocks) × ((N.flash nand.old).blocks ≤ 2048) }
-        requires writes { CanStep self.old (N.flash nand.old).image }
+        requires writes { ∥ CanStep self.old (N.flash nand.old).image ∥₁ }
         ensures ok { IfOk result (λ done. Steps self.old (N.flash nand.old).image done self.new (N.flash nand.new).image) }
         ensures outside { (q : ℕ) → q / 32 ≢ next_block self.old → (N.flash nand.new).image q ≡ (N.flash nand.old).image q }
         ensures works { OnOk result (Works (N.flash nand.old) (N.flash nand.new) 1 0) }
+        ensures exact { OnOk result ((N.flash nand.new).ops ≡ ops_more (N.flash nand.old) 1) }
         ensures err { IfErr result (λ fault. Stops (N.flash nand.old) fault (N.flash nand.new) 1 0) }
     {
         if self.info.pages == 32 * self.begun {
@@ -192,7 +193,7 @@ fn program_page<N: Nand>(
     head: PageHead,
     place: u32,
 ) -> Result<Key, FlashFault>
-    requires page { (entries : List fed_entry.Entry) × HoldsPage head packer.old entries }
+    requires page { ∥ ((entries : List fed_entry.Entry) × HoldsPage head packer.old entries) ∥₁ }
     requires range { place < 32 * (N.flash nand.old).blocks }
     requires free { MayProgram (N.flash nand.old).image place }
     ensures ok { OnOk result (N.flash nand.new ≡ programmed (N.flash nand.old) place (page_bytes head packer.old.bytes packer.old.count)) }
@@ -209,7 +210,7 @@ fn program_page<N: Nand>(
 
 // The key of the first entry of a run's page.
 fn first_key_of(alloc: Global, page: &PageData) -> Result<Key, Memory>
-    requires { (head : packer.PageHead) × (entries : List fed_entry.Entry) × IsRunPage page.now head entries }
+    requires { ∥ ((head : packer.PageHead) × (entries : List fed_entry.Entry) × IsRunPage page.now head entries) ∥₁ }
     ensures { IfOk result (λ first. (head : packer.PageHead) (entries : List fed_entry.Entry) → IsRunPage page.now head entries → first ≡ first_key entries) }
 {
     match read_page(alloc, page, RUN_KIND) {

@@ -1,10 +1,13 @@
 use Rattle.std.proofs.Common.{◌≡◌, ◌∙◌, ℕ, ◌*◌, ◌/◌, ◌<◌, ◌≤◌, get_or, refl, sym, ap, subst, arith}
 use Rattle.std.proofs.lemmas.Bool.{true≢false, false≢true}
+use Rattle.std.proofs.Math.Logic.{∥∥₁_elim, ∥∥₁_map}
 use Rattle.std.proofs.lemmas.Option.{get_or_from_slice_get}
 use Rattle.kv_nand.specs.Flash.{Flash, MayProgram, Whole, with_page, with_erased}
 use Rattle.kssd_entry.specs.Spelling.{page_bytes}
 use Rattle.kssd_run.specs.Writing.{next_block}
 use Rattle.kssd_run.proofs.Opened.{few_blocks}
+use Rattle.kssd_model.specs.RunPages.{run_page}
+use Rattle.kssd_run.proofs.Merely.{may_program-prop}
 use Rattle.kssd_run.proofs.Stepping.{less_than, next_head, holds_page, may_program, writer_programs, writes_programs, writes_erases}
 use Rattle.kssd_run.proofs.writer.RunWriter.step.Goals as goal
 
@@ -36,15 +39,15 @@ returns-then-self-clause-outside g c q ne =
 
 pub program_page-requires-clause-page : goal.program_page-requires-clause-page
 program_page-requires-clause-page g c =
-    let fed = c.requires.writes in
-    (fed.1.waiting, holds_page c.args.self.now (g.N.Nand.flash c.args.nand.now).image fed.0 fed.1 c.requires.waits)
+    ∥∥₁_map c.requires.writes (λ fed. (fed.1.waiting, holds_page c.args.self.now (g.N.Nand.flash c.args.nand.now).image fed.0 fed.1 c.requires.waits))
 
 pub program_page-requires-clause-free : goal.program_page-requires-clause-free
 program_page-requires-clause-free g c =
     let image = (g.N.Nand.flash c.args.nand.now).image in
     let writer = c.args.self.now in
-    let fed = c.requires.writes in
-    subst (MayProgram image) (sym c.page_place-place.ensures) (may_program writer image fed.0 fed.1 (less_than writer.info.pages (32 * writer.begun) writer.sound.begun_first c.if-self.false))
+    subst (MayProgram image) (sym c.page_place-place.ensures)
+    (∥∥₁_elim c.requires.writes (may_program-prop image (run_page writer.info.blocks writer.info.pages))
+    (λ fed. may_program writer image fed.0 fed.1 (less_than writer.info.pages (32 * writer.begun) writer.sound.begun_first c.if-self.false)))
 
 pub invariant_of-self-2 : goal.invariant_of-self-2
 invariant_of-self-2 g c =
