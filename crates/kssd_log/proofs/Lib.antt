@@ -2,3 +2,4 @@ pub mod Turning
 pub mod Counting
 pub mod Writing
 pub mod ScanSteps
+pub mod Beginning

@@ -1,5 +1,5 @@
 -- Adding a group to the log, and turning.
-use Rattle.std.specs.Prelude.{◌≡◌, ◌⊎◌, ◌+◌, ◌*◌, ◌<◌, ◌≤◌, ℕ, suc, List, [], ◌∷◌, ◌++◌, nat_lt, if◌then◌else◌}
+use Rattle.std.specs.Prelude.{◌≡◌, ◌⊎◌, ◌+◌, ◌*◌, ◌/◌, ◌<◌, ◌≤◌, ℕ, suc, List, [], ◌∷◌, ◌++◌, nat_lt, if◌then◌else◌}
 use Rattle.std.specs.List.{AllByRecursion}
 use Rattle.kv_nand.specs.Flash.{Image, Flash, MayProgram}
 use Rattle.kv_nand.specs.Working.{Works}
@@ -83,3 +83,9 @@ pub record IsUnderWay (old : Flash) (place : Place) (now : Flash) (at : Place) (
   pub place_is : IsPlace now at
   pub behind : IsBehind place pages moved at
   pub works : Works old now (pages + 2 * moved) 0
+
+-- each log that ends in this block, after at most so many turns that its next block isn't its own, is as before, entries of a group that isn't whole included
+abbrev pub KeepsLogs : ℕ → Image → Image → Type 0
+KeepsLogs block old new =
+    (page number turns end next : ℕ) (groups : List (List Entry)) (rest : List Entry) → IsRingPage page → turns ≤ 16 → end / 32 ≡ block → HasLog old page number groups rest turns end next
+    → HasLog new page number groups rest turns end next

@@ -1,9 +1,9 @@
 // The next page of the log, and one page programmed there.
-ghost use Rattle.std.specs.Prelude.{◌≡◌, ◌≤◌, ◌<◌, ◌+◌, ◌-◌, ◌*◌, ◌/◌, ◌%◌, ◌^◌, [], length, OnOk, OnErr, IfErr};
+ghost use Rattle.std.specs.Prelude.{◌≡◌, ◌≤◌, ◌<◌, ◌+◌, ◌-◌, ◌*◌, ◌/◌, ◌%◌, ◌^◌, [], length, min, OnOk, OnErr, IfErr};
 ghost use Rattle.kv_nand.specs.Flash.{LeftByProgram};
 ghost use Rattle.kv_nand.specs.Calls.{programmed};
 ghost use Rattle.kv_nand.specs.Faults.{flash_fault};
-ghost use Rattle.kv_nand.specs.Working.{Works, Stops};
+ghost use Rattle.kv_nand.specs.Working.{Works, Stops, ops_more};
 ghost use Rattle.kssd_entry.specs.Spelling.{page_bytes, page_of};
 ghost use Rattle.kssd_model.specs.Groups.{log_head, next_block};
 ghost use Rattle.kssd_log.specs.Ring.{IsInRing, paged, turned};
@@ -38,6 +38,7 @@ impl Place {
         ensures stays { OnErr result (self.new ≡ self.old) }
         ensures packer { OnOk result (packer.new ≡ record { bytes = []; count = 0 }) }
         ensures works { OnOk result (Works (N.flash nand.old) (N.flash nand.new) 1 0) }
+        ensures exact { OnOk result ((N.flash nand.new).ops ≡ ops_more (N.flash nand.old) 1) }
         ensures stops { IfErr result (λ fault. Stops (N.flash nand.old) (flash_fault fault) (N.flash nand.new) 1 0) }
         ensures left { LeftByProgram (N.flash nand.old).image self.old.page (page_bytes (log_head flags self.old.seq) packer.old.bytes packer.old.count) (N.flash nand.new).image }
     {
@@ -70,6 +71,7 @@ impl Place {
         ensures next { OnOk result (self.new ≡ turned self.old) }
         ensures stays { OnErr result (self.new ≡ self.old) }
         ensures works { OnOk result (Works (N.flash nand.old) (N.flash nand.new) 1 0) }
+        ensures exact { OnOk result ((N.flash nand.new).ops ≡ ops_more (N.flash nand.old) 1) }
         ensures stops { IfErr result (λ fault. Stops (N.flash nand.old) (flash_fault fault) (N.flash nand.new) 1 0) }
         ensures left { LeftByProgram (N.flash nand.old).image self.old.page (page_of (log_head 2 self.old.seq) []) (N.flash nand.new).image }
     {

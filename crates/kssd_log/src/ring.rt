@@ -1,14 +1,17 @@
 // The ring of the log's blocks.
-ghost use Rattle.std.specs.Prelude.{◌≡◌, ◌≤◌, ◌<◌, ◌+◌, ◌*◌, ◌/◌, ◌^◌, List, length, OnOk, OnErr, IfErr};
-ghost use Rattle.kv_nand.specs.Working.{Works, Stops};
+ghost use Rattle.std.specs.Prelude.{◌≡◌, ◌≤◌, ◌<◌, ◌+◌, ◌*◌, ◌/◌, ◌^◌, List, length, min, ◌-◌, IfOk, OnOk, OnErr, IfErr};
+ghost use Rattle.kv_nand.specs.Working.{Works, Stops, ops_more};
 ghost use Rattle.kssd_entry.specs.declared.entry.Entry.{Entry};
 ghost use Rattle.kssd_log.specs.Ring.{IsInRing, IsBehind, begun, turned, room_of, turns_for};
-ghost use Rattle.kssd_log.specs.Append.{IsPlace, pages_of, Appends, MayAppend, Carries, KeepsGroups, StaysOutside};
+ghost use Rattle.kssd_log.specs.Append.{IsPlace, pages_of, Appends, MayAppend, Carries, KeepsGroups, KeepsLogs, StaysOutside};
+ghost use Rattle.kv_nand.specs.Faults.{flash_fault};
+ghost use Rattle.kssd_model.specs.Groups.{next_block};
 
 use crate::place::Place;
+use crate::turn::block_after;
 use kssd_entry::Entries;
 use kssd_layout::PAGES_PER_BLOCK;
-use kv_nand::{FlashFault, Nand};
+use kv_nand::{FlashFault, Nand, NandFault};
 use std::alloc::Global;
 use std::marker::Model;
 
@@ -47,6 +50,25 @@ impl Ring {
                 blocks: RING_BLOCKS,
             },
         }
+    }
+
+    /// Erases the ring block after the one in which a log ends, and gives a ring whose place is its
+    /// page 0. Each log that ends there is as before, also after a fault.
+    pub fn begin<N: Nand>(nand: &mut N, last: u16, seq: u64) -> Result<Ring, NandFault>
+        requires last { (2 ≤ last) × (last ≤ 19) }
+        requires number { seq < 2 ^ 63 }
+        requires blocks { 256 ≤ (N.flash nand.old).blocks }
+        ensures ok { IfOk result (λ ring. ring ≡ begun (next_block last) seq) }
+        ensures place { IfOk result (λ ring. IsPlace (N.flash nand.new) ring) }
+        ensures kept { KeepsLogs last (N.flash nand.old).image (N.flash nand.new).image }
+        ensures outside { StaysOutside (N.flash nand.old).image (N.flash nand.new).image }
+        ensures works { OnOk result (Works (N.flash nand.old) (N.flash nand.new) 1 0) }
+        ensures exact { OnOk result ((N.flash nand.new).ops ≡ ops_more (N.flash nand.old) 1) }
+        ensures stops { IfErr result (λ fault. Stops (N.flash nand.old) (flash_fault fault) (N.flash nand.new) 1 0) }
+    {
+        let next = block_after(last);
+        nand.erase(next)?;
+        Ok(Ring::at(next, seq))
     }
 
     /// How many pages of groups fit into the blocks that are left.
@@ -108,6 +130,7 @@ impl Ring {
         ensures err { OnErr result ((rest : List Entry) → KeepsGroups 1 0 (N.flash nand.old).image self.old rest (N.flash nand.new).image) }
         ensures outside { StaysOutside (N.flash nand.old).image (N.flash nand.new).image }
         ensures works { OnOk result (Works (N.flash nand.old) (N.flash nand.new) 2 0) }
+        ensures exact { OnOk result ((N.flash nand.new).ops ≡ ops_more (N.flash nand.old) 2) }
         ensures stops { IfErr result (λ fault. Stops (N.flash nand.old) fault (N.flash nand.new) 2 0) }
     {
         self.place.turn(alloc, nand)

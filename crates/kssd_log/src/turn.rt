@@ -1,6 +1,6 @@
 // Going on in the next block of the ring.
-ghost use Rattle.std.specs.Prelude.{◌≡◌, ◌≤◌, ◌<◌, ◌+◌, ◌-◌, ◌*◌, ◌/◌, ◌%◌, ◌^◌, List, OnOk, OnErr, IfErr};
-ghost use Rattle.kv_nand.specs.Working.{Works, Stops};
+ghost use Rattle.std.specs.Prelude.{◌≡◌, ◌≤◌, ◌<◌, ◌+◌, ◌-◌, ◌*◌, ◌/◌, ◌%◌, ◌^◌, List, min, OnOk, OnErr, IfErr};
+ghost use Rattle.kv_nand.specs.Working.{Works, Stops, ops_more};
 ghost use Rattle.kssd_entry.specs.declared.entry.Entry.{Entry};
 ghost use Rattle.kssd_model.specs.Groups.{next_block};
 ghost use Rattle.kssd_log.specs.Ring.{IsInRing, IsBehind, turned, turns_due, room_of};
@@ -32,6 +32,7 @@ impl Place {
         ensures err { OnErr result ((rest : List Entry) → KeepsGroups 1 0 (N.flash nand.old).image self.old rest (N.flash nand.new).image) }
         ensures outside { StaysOutside (N.flash nand.old).image (N.flash nand.new).image }
         ensures works { OnOk result (Works (N.flash nand.old) (N.flash nand.new) 2 0) }
+        ensures exact { OnOk result ((N.flash nand.new).ops ≡ ops_more (N.flash nand.old) 2) }
         ensures stops { IfErr result (λ fault. Stops (N.flash nand.old) fault (N.flash nand.new) 2 0) }
     {
         let mut packer = PagePacker::new(alloc)?;
