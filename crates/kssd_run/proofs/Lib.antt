@@ -9,3 +9,4 @@ pub mod Written
 pub mod Stepping
 pub mod RunBlocks
 pub mod Merely
+pub mod Staying

@@ -27,6 +27,7 @@ is_written writer run n w f n_is info firsts = record {
   level = ap (λ (r : RunInfo). r.level) info;
   number = ap (λ (r : RunInfo). r.number) info;
   pages = pages_are;
+  fed = ap (λ (r : RunInfo). r.entries) info;
   few = omega (arith, writer.sound.least, pages_are, ap (λ (r : RunInfo). r.entries) info);
   housed = ap (λ (r : RunInfo). length r.blocks) info ∙ length-take-le n writer.info.blocks housed ∙ n_is ∙ ap (λ (p : ℕ). (p + 31) / 32) (sym pages_are);
   blocks = ap (λ (r : RunInfo). r.blocks) info ∙ ap (λ (k : ℕ). take k writer.info.blocks) (n_is ∙ ap (λ (p : ℕ). (p + 31) / 32) (sym pages_are));

@@ -1,8 +1,8 @@
 -- A run in memory, and the run that it stands for in an image.
-use Rattle.std.specs.Prelude.{◌≡◌, ◌<◌, ℕ, [], get_or}
+use Rattle.std.specs.Prelude.{◌≡◌, ◌<◌, ℕ, List, [], get_or}
 use Rattle.kv_nand.specs.Flash.{Image}
 use Rattle.kssd_model.specs.declared.runs.RunInfo.{RunInfo}
-use Rattle.kssd_model.specs.RunPages.{page_entries, first_key, IsRunIn, IsGoodRun}
+use Rattle.kssd_model.specs.RunPages.{run_page, page_entries, run_entries, first_key, IsRunIn, IsGoodRun}
 use Rattle.kssd_run.specs.declared.reader.Run.{Run}
 
 -- where it stands, and how large it is
@@ -19,3 +19,13 @@ pub record IsOpened (info : RunInfo) (device : ℕ) (image : Image) (run : Run) 
   pub info_is : run_info run ≡ info
   pub stands : StandsRun run device image
   pub good : IsGoodRun image info
+
+-- the first so many pages in these blocks are the same in both images
+abbrev pub SamePages : List ℕ → ℕ → Image → Image → Type 0
+SamePages blocks pages old new = (i : ℕ) → i < pages → new (run_page blocks i) ≡ old (run_page blocks i)
+
+-- a run stands, with the same entries, in each image that has its pages as they are
+abbrev pub RunStays : Type 0
+RunStays =
+    (run : Run) (device : ℕ) (old new : Image) → SamePages (run_info run).blocks (run_info run).pages old new → StandsRun run device old
+    → StandsRun run device new × (run_entries new (run_info run) ≡ run_entries old (run_info run))

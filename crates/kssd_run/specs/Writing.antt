@@ -10,7 +10,8 @@ use Rattle.kssd_model.specs.Rising.{is_rising}
 use Rattle.kssd_model.specs.RunPages.{run_page, page_of_run, page_entries, joined, first_key, run_entries}
 use Rattle.kssd_run.specs.declared.writer.RunWriter.{RunWriter}
 use Rattle.kssd_run.specs.declared.reader.Run.{Run}
-use Rattle.kssd_run.specs.Run.{run_info, StandsRun}
+use Rattle.kssd_run.specs.Run.{run_info, SamePages, StandsRun}
+use Rattle.kssd_run.specs.Write.{waiting_pages}
 
 -- whether a closed page waits to be programmed
 abbrev pub page_waits : RunWriter → Bool
@@ -31,6 +32,14 @@ pages_written writer = writer.info.pages
 -- how many of its blocks are erased
 abbrev pub blocks_begun : RunWriter → ℕ
 blocks_begun writer = writer.begun
+
+-- how many entries it took
+abbrev pub entries_fed : RunWriter → ℕ
+entries_fed writer = writer.info.entries
+
+-- how many entries stand in a page that isn't closed
+abbrev pub entries_filling : RunWriter → ℕ
+entries_filling writer = writer.filling.count
 
 -- the blocks for it
 abbrev pub run_blocks : RunWriter → List ℕ
@@ -93,6 +102,7 @@ pub record IsStarted (level number : ℕ) (blocks : List ℕ) (writer : RunWrite
   pub open_ : is_closed writer ≡ false
   pub pages : pages_written writer ≡ 0
   pub begun : blocks_begun writer ≡ 0
+  pub entries : entries_fed writer ≡ 0
   pub writes : (image : Image) → Writes writer image []
 
 -- the page that waited is programmed, or else the next block is erased; what was fed stays
@@ -105,6 +115,7 @@ pub record Steps (old : RunWriter) (before : Image) (done : Bool) (new : RunWrit
   pub level : new.info.level ≡ old.info.level
   pub number : new.info.number ≡ old.info.number
   pub blocks : run_blocks new ≡ run_blocks old
+  pub entries : entries_fed new ≡ entries_fed old
   pub writes : (fed : List Entry) → Writes old before fed → Writes new after fed
 
 -- the run of what was fed: each page but the last is full, so that there is at most one page for 9 entries, and it has just the blocks for its pages
@@ -112,9 +123,24 @@ pub record IsWritten (writer : RunWriter) (run : Run) : Type 0 where
   pub level : (run_info run).level ≡ writer.info.level
   pub number : (run_info run).number ≡ writer.info.number
   pub pages : (run_info run).pages ≡ pages_written writer
+  pub fed : (run_info run).entries ≡ entries_fed writer
   pub few : (run_info run).pages ≤ ((run_info run).entries + 8) / 9
   pub housed : length (run_info run).blocks ≡ ((run_info run).pages + 31) / 32
   pub blocks : (run_info run).blocks ≡ take (((run_info run).pages + 31) / 32) (run_blocks writer)
   pub entries : (image : Image) (fed : List Entry) → Writes writer image fed → run_entries image (run_info run) ≡ fed
   pub full : (image : Image) (fed : List Entry) → Writes writer image fed → AreFullPages (page_entries image (run_info run).number (run_info run).blocks) (run_info run).pages
   pub stands : (device : ℕ) (image : Image) (fed : List Entry) → Writes writer image fed → ((i : ℕ) → i < pages_written writer → run_page (run_blocks writer) i < 32 * device) → StandsRun run device image
+
+-- how pages and blocks follow from entries: there is at most one page for 9 entries, the last of all apart, and at most one block more is begun than is full
+pub record AreCounts (writer : RunWriter) : Type 0 where
+  pub pages : 9 * (pages_written writer + waiting_pages (page_waits writer)) + entries_filling writer ≤ entries_fed writer + 8
+  pub begun : 32 * blocks_begun writer ≤ pages_written writer + 32
+  pub housed : (pages_written writer ≤ 32 * blocks_begun writer) × (blocks_begun writer ≤ length (run_blocks writer))
+
+-- the counts of each writer
+abbrev pub WriterCounts : Type 0
+WriterCounts = (writer : RunWriter) → AreCounts writer
+
+-- a run that is half written stays so in each image that has the pages of the blocks begun as they are
+abbrev pub WritesStay : Type 0
+WritesStay = (writer : RunWriter) (old new : Image) (fed : List Entry) → SamePages (run_blocks writer) (32 * blocks_begun writer) old new → Writes writer old fed → Writes writer new fed

@@ -4,12 +4,14 @@
 mod fault;
 mod index;
 mod judge;
+mod laws;
 mod page;
 mod reader;
 mod writer;
 
 pub use fault::RunFault;
 pub use index::FirstKeys;
+pub use laws::{runs_stay, writers_count, writers_stay};
 pub use reader::Run;
 pub use writer::{Fed, RunWriter};
 

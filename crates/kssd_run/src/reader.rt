@@ -156,7 +156,29 @@ impl Run {
         reading.into_run(alloc, info)
     }
 
-    // The entries of one page.
+    /// The entries of page `index`, by rising keys and at least one. Exactly one page is read.
+    pub fn page_at<N: Nand>(
+        &self,
+        alloc: Global,
+        nand: &mut N,
+        index: u32,
+    ) -> Result<Entries, FlashFault>
+        requires index { index < (run_info self.now).pages }
+        requires stands { StandsRun self.now (N.flash nand.old).blocks (N.flash nand.old).image }
+        ensures value { IfOk result (λ entries. entries ≡ page_entries (N.flash nand.old).image (run_info self.now).number (run_info self.now).blocks index) }
+        ensures some { IfOk result HasEntries }
+        ensures read { OnOk result (N.flash nand.new ≡ has_read (N.flash nand.old)) }
+        ensures few { (N.flash nand.new).reads ≤ (N.flash nand.old).reads + 1 }
+        ensures err { IfErr result (λ fault. StopsReading (N.flash nand.old) fault (N.flash nand.new)) }
+    {
+        let place = page_place(&self.info.blocks, index);
+        match read_run_page(alloc, nand, place, self.info.number, index)? {
+            Some(entries) => Ok(entries),
+            None => unreachable!(),
+        }
+    }
+
+    // The same by an index of the first keys.
     fn read_at<N: Nand>(
         &self,
         alloc: Global,
@@ -171,12 +193,7 @@ impl Run {
         ensures err { IfErr result (λ fault. StopsReading (N.flash nand.old) fault (N.flash nand.new)) }
     {
         let _pages = self.info.pages;
-        let index = index as u32;
-        let place = page_place(&self.info.blocks, index);
-        match read_run_page(alloc, nand, place, self.info.number, index)? {
-            Some(entries) => Ok(entries),
-            None => unreachable!(),
-        }
+        self.page_at(alloc, nand, index as u32)
     }
 
     /// The entry of a key. At most one page is read, and exactly one where there is an entry.

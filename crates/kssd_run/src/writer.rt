@@ -43,7 +43,7 @@ pub struct RunWriter {
 }
 
 impl RunWriter {
-    ghost use Rattle.kssd_run.specs.Writing.{Writes, IsStarted, page_waits, is_closed, fills_page, CanStep, next_block, pages_written, run_blocks, KeepsPlace, Steps, IsWritten};
+    ghost use Rattle.kssd_run.specs.Writing.{Writes, IsStarted, page_waits, is_closed, fills_page, CanStep, next_block, pages_written, run_blocks, entries_fed, KeepsPlace, Steps, IsWritten};
     ghost use Rattle.kv_nand.specs.Flash.{Image};
 
     /// A run without entries, which is to stand in these blocks.
@@ -79,6 +79,7 @@ impl RunWriter {
         ensures same { result ≡ Fed.PageFull → self.new ≡ self.old }
         ensures taken { result ≡ Fed.Taken → (image : Image) (fed : List fed_entry.Entry) → Writes self.old image fed → is_rising (fed ++ entry.now ∷ []) ≡ true → Writes self.new image (fed ++ entry.now ∷ []) }
         ensures stays { is_closed self.new ≡ false }
+        ensures counted { result ≡ Fed.Taken → entries_fed self.new ≡ entries_fed self.old + 1 }
         ensures place { KeepsPlace self.old self.new }
     {
         if self.waits {
@@ -94,6 +95,7 @@ impl RunWriter {
         requires { page_waits self.old ≡ false }
         ensures closed { is_closed self.new ≡ true }
         ensures none { fills_page self.new ≡ false }
+        ensures counted { entries_fed self.new ≡ entries_fed self.old }
         ensures same { (image : Image) (fed : List fed_entry.Entry) → Writes self.old image fed → Writes self.new image fed }
         ensures place { KeepsPlace self.old self.new }
     {

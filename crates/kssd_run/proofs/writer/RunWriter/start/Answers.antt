@@ -11,5 +11,6 @@ returns c = record {
   open_ = refl;
   pages = refl;
   begun = refl;
+  entries = refl;
   writes = λ image. writes_nothing _ image refl refl refl refl c.in_ok-new-2.ensures;
 }

@@ -27,6 +27,7 @@ returns-then-self-clause-ok g c =
       level = refl;
       number = refl;
       blocks = refl;
+      entries = refl;
       writes = λ fed h. writes_erases (flash c.args.nand.now).blocks writer _ before (flash c.erase.new.self).image fed c.requires.blocks c.requires.room c.if-self.true after refl refl refl refl refl refl h;
     }
 
@@ -73,5 +74,6 @@ returns-clause-ok g c =
       level = refl;
       number = refl;
       blocks = refl;
+      entries = refl;
       writes = λ fed h. writes_programs (flash c.args.nand.now).blocks writer _ before (flash c.program_page.new.nand).image fed c.in_ok-first.first c.requires.blocks c.requires.room c.requires.waits after c.in_ok-first.ensures.first refl c.in_ok-push.ensures.ok refl refl refl h;
     }
