@@ -1,3 +1,4 @@
 pub mod Many
 pub mod PageMaking
 pub mod Placing
+pub mod Costs

@@ -1,6 +1,6 @@
 -- Where an anchor is written, and what stands afterwards.
-use Rattle.std.specs.Prelude.{◌≡◌, ◌≢◌, ◌⊎◌, ◌<◌, ◌≤◌, ◌-◌, ◌*◌, ◌/◌, ℕ, Option, Some, None, MatchOption, IsSomeAnd}
-use Rattle.kv_nand.specs.Flash.{Image, Erased, Whole, MayProgram, LeftByErase, with_page, with_erased}
+use Rattle.std.specs.Prelude.{◌≡◌, ◌≢◌, ◌⊎◌, ◌<◌, ◌≤◌, ◌+◌, ◌-◌, ◌*◌, ◌/◌, ◌&&◌, ℕ, zero, suc, Bool, true, false, Option, Some, None, MatchOption, IsSomeAnd, if◌then◌else◌}
+use Rattle.kv_nand.specs.Flash.{Image, PageState, Erased, Whole, Cut, MayProgram, LeftByErase, with_page, with_erased}
 use Rattle.kssd_model.specs.declared.anchor.Anchor.{Anchor}
 use Rattle.kssd_model.specs.AnchorSpelling.{anchor_page}
 use Rattle.kssd_model.specs.Anchors.{newest_in}
@@ -54,3 +54,28 @@ abbrev pub IsFreeSoFar : Image → ℕ → ℕ → Option ℕ → Type 0
 IsFreeSoFar image first page free =
     MatchOption free ((q : ℕ) → first ≤ q → q < page → image q ≢ Erased)
     (λ f. (first ≤ f) × (f < page) × (image f ≡ Erased) × ((q : ℕ) → first ≤ q → q < f → image q ≢ Erased) × ((q : ℕ) → f < q → q < page → image q ≡ Erased))
+
+-- whether a page is Erased
+abbrev pub is_erased : PageState → Bool
+is_erased Erased = true
+is_erased (Whole bytes) = false
+is_erased Cut = false
+
+-- whether so many pages, from this one on, are all Erased
+unfoldable pub are_erased : Image → ℕ → ℕ → Bool
+are_erased image page zero = true
+are_erased image page (suc n) = is_erased (image page) && are_erased image (page + 1) n
+
+-- whether of so many pages, from this one on, one is Erased, and all behind the first such page are too
+unfoldable pub has_free : Image → ℕ → ℕ → Bool
+has_free image page zero = false
+has_free image page (suc n) = if is_erased (image page) then are_erased image (page + 1) n else has_free image (page + 1) n
+
+-- how many erases come before the next anchor: one where the block of the last has no page for it
+abbrev pub erases_before : Image → Option ℕ → ℕ
+erases_before image None = 0
+erases_before image (Some last) = if has_free image (32 * (last / 32)) 32 then 0 else 1
+
+-- how many operations the next anchor takes
+abbrev pub write_cost : Image → Option ℕ → ℕ
+write_cost image last = 1 + erases_before image last

@@ -9,7 +9,7 @@ mod writing;
 pub use finding::newest;
 pub use kssd_model::{Anchor, BlockList, Found, RunInfo, RunInfos};
 pub use spelling::has_spelling;
-pub use writing::write;
+pub use writing::{cost, write};
 
 #[cfg(test)]
 mod tests;

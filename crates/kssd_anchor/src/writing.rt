@@ -1,11 +1,11 @@
 // Writing the next anchor.
-ghost use Rattle.std.specs.Prelude.{◌≡◌, ◌<◌, ◌≤◌, ◌*◌, ◌/◌, ◌↔◌, ◌⊎◌, IsTrue, IfOk, OnOk, OnErr, IfErr, IsErrOf};
+ghost use Rattle.std.specs.Prelude.{◌≡◌, ◌<◌, ◌≤◌, ◌+◌, ◌*◌, ◌/◌, ◌↔◌, ◌⊎◌, IsTrue, is_some, IfOk, OnOk, OnErr, IfErr, IsErrOf};
 ghost use Rattle.std.specs.Option.{ForSome};
 ghost use Rattle.kv_nand.specs.Flash.{Erased, MayProgram};
 ghost use Rattle.kv_nand.specs.Faults.{flash_fault};
-ghost use Rattle.kv_nand.specs.Working.{Works, Stops};
+ghost use Rattle.kv_nand.specs.Working.{Works, Stops, ops_more};
 ghost use Rattle.kssd_model.specs.AnchorSpelling.{HasSpelling};
-ghost use Rattle.kssd_anchor.specs.Places.{IsFree, IsPlace, IsLeftByPlace, CanFollow, IsWritten, IsOldOrGiven, SameBehind};
+ghost use Rattle.kssd_anchor.specs.Places.{IsFree, IsPlace, IsLeftByPlace, CanFollow, IsWritten, IsOldOrGiven, SameBehind, has_free, erases_before, write_cost};
 
 use crate::spelling::page_of;
 use kssd_layout::PAGES_PER_BLOCK;
@@ -57,6 +57,7 @@ fn next_place<N: Nand>(alloc: Global, nand: &mut N, last: Option<u32>) -> Result
     ensures ok { IfOk result (λ page. IsPlace (N.flash nand.old).image last page (N.flash nand.new).image) }
     ensures works { OnOk result (Works (N.flash nand.old) (N.flash nand.new) 1 32) }
     ensures stops { IfErr result (λ fault. Stops (N.flash nand.old) fault (N.flash nand.new) 1 32) }
+    ensures exact { OnOk result ((N.flash nand.new).ops ≡ ops_more (N.flash nand.old) (erases_before (N.flash nand.old).image last)) }
     ensures left { IsLeftByPlace (N.flash nand.old).image last (N.flash nand.new).image }
     ensures memory { IsErrOf result FlashFault.Memory → N.flash nand.new ≡ N.flash nand.old }
 {
@@ -75,9 +76,32 @@ fn next_place<N: Nand>(alloc: Global, nand: &mut N, last: Option<u32>) -> Result
     }
 }
 
+/// How many operations the next anchor takes: 1, or 2 where the block of the anchor in page `last`
+/// has no page for it, so that the other block is erased first. The flash is only read.
+pub fn cost<N: Nand>(alloc: Global, nand: &mut N, last: Option<u32>) -> Result<u32, FlashFault>
+    requires blocks { 2 ≤ (N.flash nand.old).blocks }
+    requires last { ForSome last (λ page. page < 64) }
+    ensures ok { IfOk result (λ cost. cost ≡ write_cost (N.flash nand.old).image last) }
+    ensures few { IfOk result (λ cost. (1 ≤ cost) × (cost ≤ 2)) }
+    ensures same { (N.flash nand.new).image ≡ (N.flash nand.old).image }
+    ensures works { OnOk result (Works (N.flash nand.old) (N.flash nand.new) 0 32) }
+    ensures stops { IfErr result (λ fault. Stops (N.flash nand.old) fault (N.flash nand.new) 0 32) }
+{
+    let Some(last) = last else {
+        return Ok(1);
+    };
+    let mut buffer = PageData::new(alloc)?;
+    let block = (last / PAGES_PER_BLOCK) as u16;
+    match free_page(nand, &mut buffer, block)? {
+        Some(_) => Ok(1),
+        None => Ok(2),
+    }
+}
+
 /// Writes an anchor in the next place, and answers its page. `last` is the page of the newest
-/// anchor, whose number is lower, or there is none and both blocks of anchors are erased. At each
-/// fault the newest anchor is the one before or the one given. The flash has 256 to 2,048 blocks.
+/// anchor, whose number is lower, or there is none and both blocks of anchors are erased. It takes
+/// as many operations as `cost` told. At each fault the newest anchor is the one before or the one
+/// given. The flash has 256 to 2,048 blocks.
 pub fn write<N: Nand>(
     alloc: Global,
     nand: &mut N,
@@ -89,6 +113,7 @@ pub fn write<N: Nand>(
     requires last { CanFollow (N.flash nand.old).image last anchor.now }
     ensures ok { IfOk result (λ page. IsWritten (N.flash nand.old).image last anchor.now page (N.flash nand.new).image) }
     ensures works { OnOk result (Works (N.flash nand.old) (N.flash nand.new) 2 32) }
+    ensures exact { OnOk result ((N.flash nand.new).ops ≡ ops_more (N.flash nand.old) (write_cost (N.flash nand.old).image last)) }
     ensures err { OnErr result (IsOldOrGiven (N.flash nand.old).image anchor.now (N.flash nand.new).image) }
     ensures stops { IfErr result (λ fault. Stops (N.flash nand.old) fault (N.flash nand.new) 2 32) }
     ensures behind { SameBehind (N.flash nand.old).image (N.flash nand.new).image }
