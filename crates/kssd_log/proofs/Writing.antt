@@ -4,11 +4,11 @@ use Rattle.std.specs.List.{AllByRecursion}
 use Rattle.std.proofs.lemmas.Bool.{cases_eq, eq-eqb, ne_eqb, le-leb}
 use Rattle.std.proofs.lemmas.List.{append-nil}
 use Rattle.std.proofs.lemmas.List.Concat.{flat_map-append, flat_map-cons}
-use Rattle.kv_nand.specs.Flash.{Flash, Image, Erased, Whole, Cut, LeftByProgram}
+use Rattle.kv_nand.specs.Flash.{Flash, Image, IsSound, Erased, Whole, Cut, LeftByProgram}
 use Rattle.kv_nand.specs.Calls.{programmed}
 use Rattle.kv_nand.specs.declared.fault.FlashFault.{FlashFault}
-use Rattle.kv_nand.specs.Working.{Works, Stops}
-use Rattle.kv_nand.proofs.Chaining.{works_then_works, works_then_stops, works_still, works_within, stops_within}
+use Rattle.kv_nand.specs.Working.{Works, Stops, ops_more}
+use Rattle.kv_nand.proofs.Chaining.{ops_then_ops, works_then_works, works_then_stops, works_still, works_within, stops_within}
 use Rattle.kssd_entry.specs.declared.entry.Entry.{Entry}
 use Rattle.kssd_entry.specs.Spelling.{entry_bytes, entries_bytes, page_bytes, page_of, FitsEntry, IsPageOf, is_head}
 use Rattle.kssd_entry.specs.Packing.{Packed, packed, with_entry}
@@ -45,10 +45,17 @@ place_after old new at bytes place e inner = record {
     whole_isn't_erased : (b : List ℕ) → Whole b ≡ Erased → ⊥
     whole_isn't_erased b h = cc
 
+-- exactly so many operations were begun, and nothing else changed
+abbrev pub Begins : Flash → Flash → ℕ → Type 0
+Begins old new n = Works old new n 0 × (new.ops ≡ ops_more old n)
+
+begins_then : (a b c : Flash) (first more : ℕ) → Begins a b first → Begins b c more → Begins a c (first + more)
+begins_then a b c first more ab bc = (works_then_works a b c first 0 more 0 ab.0 bc.0, ops_then_ops a b c first more ab.1 bc.1)
+
 -- ---- entries in the packer
 
-pub under_way_begins : (old : Flash) (place : Place) → IsPlace old place → IsUnderWay old place old place (record { bytes = []; count = 0 }) []
-under_way_begins old place at = record {
+pub under_way_begins : (old : Flash) (place : Place) → IsSound old → IsPlace old place → IsUnderWay old place old place (record { bytes = []; count = 0 }) []
+under_way_begins old place sound at = record {
   done = [];
   open_ = [];
   pages = 0;
@@ -61,6 +68,7 @@ under_way_begins old place at = record {
   place_is = at;
   behind = behind_still place;
   works = works_still old;
+  exact = omega (arith, sound.ops);
 }
 
 packed_more : (entries : List Entry) (e : Entry) → with_entry (packed entries) e ≡ packed (entries ++ e ∷ [])
@@ -91,6 +99,7 @@ under_way_takes old place now at packer next taken e w f n = record {
   place_is = w.place_is;
   behind = w.behind;
   works = w.works;
+  exact = w.exact;
 }
 
 -- ---- a page of it is programmed
@@ -222,7 +231,7 @@ last_done old place now new at packer entries total w p all e page number turns 
 
 -- a page in the middle is programmed, and the packer is empty
 pub middle_done : (old : Flash) (place : Place) (now new : Flash) (at : Place) (packer : Packed) (taken : List Entry) (total : ℕ)
-    → IsUnderWay old place now at packer taken → IsPut 0 old place now new at packer total → new ≡ programmed now at.page (page_bytes (log_head 0 at.seq) packer.bytes packer.count) → Works now new 1 0
+    → IsUnderWay old place now at packer taken → IsPut 0 old place now new at packer total → new ≡ programmed now at.page (page_bytes (log_head 0 at.seq) packer.bytes packer.count) → Begins now new 1
     → IsUnderWay old place new (paged at) (record { bytes = []; count = 0 }) taken
 middle_done old place now new at packer taken total w p e works = record {
   done = w.done ++ w.open_;
@@ -242,13 +251,14 @@ middle_done old place now new at packer taken total w p e works = record {
   outside = outside_left old place now new at packer taken 0 total w p;
   place_is = place_after now new at _ w.place_is e p.inner;
   behind = behind_then place at (paged at) w.pages w.moved 1 0 w.behind (paged_behind at p.inner p.room);
-  works = works_within old new (w.pages + 2 * w.moved + 1) 0 (w.pages + 1 + 2 * (w.moved + 0)) 0 (works_then_works old now new (w.pages + 2 * w.moved) 0 1 0 w.works works) (omega arith) (omega arith);
+  works = works_within old new (w.pages + 2 * w.moved + 1) 0 (w.pages + 1 + 2 * (w.moved + 0)) 0 (works_then_works old now new (w.pages + 2 * w.moved) 0 1 0 w.works works.0) (omega arith) (omega arith);
+  exact = ops_then_ops old now new (w.pages + 2 * w.moved) 1 w.exact works.1 ∙ ap (ops_more old) (let e : w.pages + 2 * w.moved + 1 ≡ w.pages + 1 + 2 * (w.moved + 0) = omega arith in e);
 }
 
 -- ---- turns inside the group
 
 pub under_way_turns : (old : Flash) (place : Place) (now : Flash) (at : Place) (new : Flash) (next : Place) (packer : Packed) (taken : List Entry) (due : ℕ)
-    → IsUnderWay old place now at packer taken → ((rest : List Entry) → Carries due now.image at rest new.image next rest) → IsPlace new next → StaysOutside now.image new.image → IsBehind at 0 due next → Works now new (2 * due) 0
+    → IsUnderWay old place now at packer taken → ((rest : List Entry) → Carries due now.image at rest new.image next rest) → IsPlace new next → StaysOutside now.image new.image → IsBehind at 0 due next → Begins now new (2 * due)
     → IsUnderWay old place new next packer taken
 under_way_turns old place now at new next packer taken due w carries is outside behind works = record {
   done = w.done;
@@ -265,7 +275,8 @@ under_way_turns old place now at new next packer taken due w carries is outside 
   outside = λ q out. outside q out ∙ w.outside q out;
   place_is = is;
   behind = behind_then place at next w.pages w.moved 0 due w.behind behind;
-  works = works_within old new (w.pages + 2 * w.moved + 2 * due) 0 (w.pages + 0 + 2 * (w.moved + due)) 0 (works_then_works old now new (w.pages + 2 * w.moved) 0 (2 * due) 0 w.works works) (omega arith) (omega arith);
+  works = works_within old new (w.pages + 2 * w.moved + 2 * due) 0 (w.pages + 0 + 2 * (w.moved + due)) 0 (works_then_works old now new (w.pages + 2 * w.moved) 0 (2 * due) 0 w.works works.0) (omega arith) (omega arith);
+  exact = ops_then_ops old now new (w.pages + 2 * w.moved) (2 * due) w.exact works.1 ∙ ap (ops_more old) (let e : w.pages + 2 * w.moved + 2 * due ≡ w.pages + 0 + 2 * (w.moved + due) = omega arith in e);
 }
 
 pub turn_fails : (old : Flash) (place : Place) (now : Flash) (at : Place) (new : Image) (packer : Packed) (taken others entries : List Entry) (total : ℕ)
@@ -306,7 +317,7 @@ pub record IsReady (old : Flash) (place : Place) (now : Flash) (at : Place) (pac
   pub less : way.pages + 1 ≤ total
 
 pub ready : (old : Flash) (place : Place) (now : Flash) (at : Place) (new : Flash) (next : Place) (packer : Packed) (taken : List Entry) (total : ℕ)
-    → (w : IsUnderWay old place now at packer taken) → ((rest : List Entry) → Carries (turns_due at) now.image at rest new.image next rest) → IsPlace new next → StaysOutside now.image new.image → IsBehind at 0 (turns_due at) next → Works now new (2 * turns_due at) 0
+    → (w : IsUnderWay old place now at packer taken) → ((rest : List Entry) → Carries (turns_due at) now.image at rest new.image next rest) → IsPlace new next → StaysOutside now.image new.image → IsBehind at 0 (turns_due at) next → Begins now new (2 * turns_due at)
     → next.page % 32 < 31 → IsInRing next → 0 < room_of at → w.pages + 1 ≤ total → IsReady old place new next packer taken total
 ready old place now at new next packer taken total w carries is outside behind works inner ring room less =
     let way : IsUnderWay old place new next packer taken = under_way_turns old place now at new next packer taken (turns_due at) w carries is outside behind works in
@@ -350,8 +361,9 @@ group_behind old place now at packer taken total r all =
     let b = behind_then place at (paged at) r.way.pages r.way.moved 1 0 r.way.behind (paged_behind at r.inner r.room) in
     record { room = omega (arith, b.room); blocks = omega (arith, b.blocks); number = omega (arith, b.number) }
 
-pub group_works : (old : Flash) (place : Place) (now new : Flash) (at : Place) (packer : Packed) (taken : List Entry) (total : ℕ)
-    → (r : IsReady old place now at packer taken total) → r.way.pages + 1 ≡ total → Works now new 1 0 → Works old new (total + 2 * turns_for place total) 0
-group_works old place now new at packer taken total r all works =
+pub group_begins : (old : Flash) (place : Place) (now new : Flash) (at : Place) (packer : Packed) (taken : List Entry) (total : ℕ)
+    → (r : IsReady old place now at packer taken total) → r.way.pages + 1 ≡ total → Begins now new 1 → Begins old new (total + 2 * turns_for place total)
+group_begins old place now new at packer taken total r all works =
     let moved : r.way.moved ≡ turns_for place total = turns_are place at r.way.pages r.way.moved r.way.behind r.inner r.room ∙ ap (turns_for place) all in
-    works_within old new (r.way.pages + 2 * r.way.moved + 1) 0 (total + 2 * turns_for place total) 0 (works_then_works old now new (r.way.pages + 2 * r.way.moved) 0 1 0 r.way.works works) (omega arith) (omega arith)
+    let same : r.way.pages + 2 * r.way.moved + 1 ≡ total + 2 * turns_for place total = omega (arith, moved, all) in
+    subst (Begins old new) same (begins_then old now new (r.way.pages + 2 * r.way.moved) 1 (r.way.works, r.way.exact) works)

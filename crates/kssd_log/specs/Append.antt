@@ -2,7 +2,7 @@
 use Rattle.std.specs.Prelude.{◌≡◌, ◌⊎◌, ◌+◌, ◌*◌, ◌/◌, ◌<◌, ◌≤◌, ℕ, suc, List, [], ◌∷◌, ◌++◌, nat_lt, if◌then◌else◌}
 use Rattle.std.specs.List.{AllByRecursion}
 use Rattle.kv_nand.specs.Flash.{Image, Flash, MayProgram}
-use Rattle.kv_nand.specs.Working.{Works}
+use Rattle.kv_nand.specs.Working.{Works, ops_more}
 use Rattle.kssd_entry.specs.declared.entry.Entry.{Entry}
 use Rattle.kssd_entry.specs.Spelling.{size_of, FitsEntry}
 use Rattle.kssd_entry.specs.Packing.{Packed, packed}
@@ -83,6 +83,7 @@ pub record IsUnderWay (old : Flash) (place : Place) (now : Flash) (at : Place) (
   pub place_is : IsPlace now at
   pub behind : IsBehind place pages moved at
   pub works : Works old now (pages + 2 * moved) 0
+  pub exact : now.ops ≡ ops_more old (pages + 2 * moved)
 
 -- each log that ends in this block, after at most so many turns that its next block isn't its own, is as before, entries of a group that isn't whole included
 abbrev pub KeepsLogs : ℕ → Image → Image → Type 0

@@ -1,6 +1,6 @@
 // Adding a group to the log.
 ghost use Rattle.std.specs.Prelude.{◌≡◌, ◌≤◌, ◌<◌, ◌+◌, ◌*◌, ◌^◌, length, OnOk, OnErr, IfErr};
-ghost use Rattle.kv_nand.specs.Working.{Works, Stops};
+ghost use Rattle.kv_nand.specs.Working.{Works, Stops, ops_more};
 ghost use Rattle.kssd_log.specs.Ring.{IsInRing, IsBehind, room_of, turns_for};
 ghost use Rattle.kssd_log.specs.Append.{IsPlace, pages_of, MayAppend, Appends, StaysOutside};
 
@@ -49,6 +49,7 @@ impl Place {
         ensures place { OnOk result (IsPlace (N.flash nand.new) self.new) }
         ensures behind { OnOk result (IsBehind self.old (pages_of entries.now) (turns_for self.old (pages_of entries.now)) self.new) }
         ensures works { OnOk result (Works (N.flash nand.old) (N.flash nand.new) (pages_of entries.now + 2 * turns_for self.old (pages_of entries.now)) 0) }
+        ensures exact { OnOk result ((N.flash nand.new).ops ≡ ops_more (N.flash nand.old) (pages_of entries.now + 2 * turns_for self.old (pages_of entries.now))) }
         ensures stops { IfErr result (λ fault. Stops (N.flash nand.old) fault (N.flash nand.new) (pages_of entries.now + 2 * turns_for self.old (pages_of entries.now)) 0) }
     {
         let mut packer = PagePacker::new(alloc)?;

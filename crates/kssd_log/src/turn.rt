@@ -56,6 +56,7 @@ impl Place {
         ensures err { OnErr result ((rest : List Entry) → KeepsGroups (turns_due self.old) 0 (N.flash nand.old).image self.old rest (N.flash nand.new).image) }
         ensures outside { StaysOutside (N.flash nand.old).image (N.flash nand.new).image }
         ensures works { OnOk result (Works (N.flash nand.old) (N.flash nand.new) (2 * turns_due self.old) 0) }
+        ensures exact { OnOk result ((N.flash nand.new).ops ≡ ops_more (N.flash nand.old) (2 * turns_due self.old)) }
         ensures stops { IfErr result (λ fault. Stops (N.flash nand.old) fault (N.flash nand.new) (2 * turns_due self.old) 0) }
     {
         if self.page % 32 < 31 {

@@ -7,13 +7,13 @@ use Rattle.kssd_log.specs.Ring.{IsBehind, paged, room_of, turns_for}
 use Rattle.kssd_log.specs.Append.{Appends, pages_of}
 use Rattle.kssd_log.proofs.Turning.{on_err}
 use Rattle.kssd_log.proofs.Counting.{step_is, room_same, room_next, room_left, last_is, first_fits, pages_begin, number_fits, empty_takes, entry_bound, paged_ring}
-use Rattle.kssd_log.proofs.Writing.{IsReady, ready, under_way_begins, under_way_takes, turn_fails, middle_left, middle_done, last_left, last_done, put_middle, put_last, turn_stops, put_stops, group_behind, group_works}
+use Rattle.kssd_log.proofs.Writing.{IsReady, ready, under_way_begins, under_way_takes, turn_fails, middle_left, middle_done, last_left, last_done, put_middle, put_last, turn_stops, put_stops, group_behind, group_begins}
 use Rattle.kssd_log.proofs.place.Place.append_group.Goals as goal
 use Rattle.kssd_log.proofs.place.Place.append_group.Goals.{in-Taken, in-NoRoom+in_ok-advance-in-NoRoom+in_ok-put_page-in-NoRoom}
 
 pub loop-entry-init : goal.loop-entry-init
 loop-entry-init g c = record {
-  way = rw c.in_ok-packer.ensures (under_way_begins (g.N.Nand.flash c.args.nand.now) c.args.self.now c.requires.place);
+  way = rw c.in_ok-packer.ensures (under_way_begins (g.N.Nand.flash c.args.nand.now) c.args.self.now (g.met.N.Nand.sound c.args.nand.now) c.requires.place);
   ring = c.requires.ring;
   room = rw c.in_ok-packer.ensures refl;
   size = rw c.in_ok-packer.ensures (omega arith);
@@ -83,7 +83,7 @@ returns-in_err-put_page-in-NoRoom-clause-err g c =
     let less : inv.way.pages + 1 ≤ total = omega (arith, left.1, ap pages_of same) in
     let ok = c.in_ok-advance-in-NoRoom.ensures in
     let offered = c.in-NoRoom.ensures.offer.1 in
-    let before = ready (flash c.args.nand.now) c.args.self.now (flash c.loop-entry.nand) c.loop-entry.self (flash c.advance.new.nand) c.advance.new.self c.loop-entry.packer (take i items) total inv.way ok.ok ok.place ok.outside ok.behind ok.works ok.inner c.advance.ensures.ring left.0 less in
+    let before = ready (flash c.args.nand.now) c.args.self.now (flash c.loop-entry.nand) c.loop-entry.self (flash c.advance.new.nand) c.advance.new.self c.loop-entry.packer (take i items) total inv.way ok.ok ok.place ok.outside ok.behind (ok.works, ok.exact) ok.inner c.advance.ensures.ring left.0 less in
     let now = subst (λ p. IsReady (flash c.args.nand.now) c.args.self.now (flash c.advance.new.nand) c.advance.new.self p (take i items) total) (sym offered) before in
     let put = put_middle (flash c.args.nand.now) c.args.self.now (flash c.advance.new.nand) (flash c.put_page.new.nand) c.advance.new.self c.offer.new.self (take i items) c.entry-item.result total now c.put_page.ensures.left step.fits (rw offered c.in-NoRoom.ensures.offer.0) (rw offered inv.size) c.requires.ring c.requires.number in
     on_err _ _ (middle_left (flash c.args.nand.now) c.args.self.now (flash c.advance.new.nand) (flash c.put_page.new.nand) c.advance.new.self c.offer.new.self (take i items) (drop i items) c.args.entries.now total now.way put all now.less)
@@ -103,7 +103,7 @@ returns-in_err-put_page-in-NoRoom-clause-stops g c =
     let less : inv.way.pages + 1 ≤ total = omega (arith, left.1, ap pages_of same) in
     let ok = c.in_ok-advance-in-NoRoom.ensures in
     let offered = c.in-NoRoom.ensures.offer.1 in
-    let before = ready (flash c.args.nand.now) c.args.self.now (flash c.loop-entry.nand) c.loop-entry.self (flash c.advance.new.nand) c.advance.new.self c.loop-entry.packer (take i items) total inv.way ok.ok ok.place ok.outside ok.behind ok.works ok.inner c.advance.ensures.ring left.0 less in
+    let before = ready (flash c.args.nand.now) c.args.self.now (flash c.loop-entry.nand) c.loop-entry.self (flash c.advance.new.nand) c.advance.new.self c.loop-entry.packer (take i items) total inv.way ok.ok ok.place ok.outside ok.behind (ok.works, ok.exact) ok.inner c.advance.ensures.ring left.0 less in
     let now = subst (λ p. IsReady (flash c.args.nand.now) c.args.self.now (flash c.advance.new.nand) c.advance.new.self p (take i items) total) (sym offered) before in
     let p = err_from_is_err_and c.from_residual-in_err-put_page-in-NoRoom.result c.from_residual-in_err-put_page-in-NoRoom.ensures.1 in
     rw (p.1, p.2) (put_stops (flash c.args.nand.now) c.args.self.now (flash c.advance.new.nand) c.advance.new.self (flash c.put_page.new.nand) c.offer.new.self (take i items) _ total now.way c.in_err-put_page-in-NoRoom.ensures.stops now.less now.room)
@@ -139,10 +139,10 @@ loop-entry-preserved g c =
           let ok = w.in_ok-put_page-in-NoRoom.ensures in
           let same = w.in-NoRoom.ensures.offer.1 in
           let more = w.in-NoRoom.ensures.offer.0 in
-          let before = ready (flash c.args.nand.now) c.args.self.now (flash c.loop-entry.nand) c.loop-entry.self (flash w.advance.new.nand) w.advance.new.self c.loop-entry.packer (take i items) total inv.way turn.ok turn.place turn.outside turn.behind turn.works turn.inner w.advance.ensures.ring left.0 less in
+          let before = ready (flash c.args.nand.now) c.args.self.now (flash c.loop-entry.nand) c.loop-entry.self (flash w.advance.new.nand) w.advance.new.self c.loop-entry.packer (take i items) total inv.way turn.ok turn.place turn.outside turn.behind (turn.works, turn.exact) turn.inner w.advance.ensures.ring left.0 less in
           let now = subst (λ p. IsReady (flash c.args.nand.now) c.args.self.now (flash w.advance.new.nand) w.advance.new.self p (take i items) total) (sym same) before in
           let put = put_middle (flash c.args.nand.now) c.args.self.now (flash w.advance.new.nand) (flash w.put_page.new.nand) w.advance.new.self c.offer.new.self (take i items) e total now w.put_page.ensures.left step.fits (rw same more) (rw same inv.size) c.requires.ring c.requires.number in
-          let after = middle_done (flash c.args.nand.now) c.args.self.now (flash w.advance.new.nand) (flash w.put_page.new.nand) w.advance.new.self c.offer.new.self (take i items) total now.way put ok.ok ok.works in
+          let after = middle_done (flash c.args.nand.now) c.args.self.now (flash w.advance.new.nand) (flash w.put_page.new.nand) w.advance.new.self c.offer.new.self (take i items) total now.way put ok.ok (ok.works, ok.exact) in
           let offered : w.offer-in-NoRoom.new.self ≡ with_entry (record { bytes = []; count = 0 }) e = empty_takes w.offer-in-NoRoom.result e w.offer-in-NoRoom.new.self step.fits (rw ok.packer at w.offer-in-NoRoom.ensures.offer) in
           let one : room_of (paged w.advance.new.self) + 1 ≡ room_of c.loop-entry.self = omega (arith, now.room, turn.inner, turn.behind.room) in
           rw (w.self-is, w.nand-is, w.packer-is, ok.next, step.taken, offered) (record {
@@ -218,7 +218,7 @@ returns-in_err-put_page-clause-err g c =
     let all : take i items ≡ c.args.entries.now = take_all _ _ c.loop-entry-test.false ∙ same in
     let less : inv.way.pages + 1 ≤ total = omega (arith, left.1, ap pages_of same) in
     let ok = c.in_ok-advance.ensures in
-    let before = ready (flash c.args.nand.now) c.args.self.now (flash c.loop-entry.nand) c.loop-entry.self (flash c.advance-2.new.nand) c.advance-2.new.self c.loop-entry.packer (take i items) total inv.way ok.ok ok.place ok.outside ok.behind ok.works ok.inner c.advance-2.ensures.ring left.0 less in
+    let before = ready (flash c.args.nand.now) c.args.self.now (flash c.loop-entry.nand) c.loop-entry.self (flash c.advance-2.new.nand) c.advance-2.new.self c.loop-entry.packer (take i items) total inv.way ok.ok ok.place ok.outside ok.behind (ok.works, ok.exact) ok.inner c.advance-2.ensures.ring left.0 less in
     let now = subst (λ taken. IsReady (flash c.args.nand.now) c.args.self.now (flash c.advance-2.new.nand) c.advance-2.new.self c.loop-entry.packer taken total) all before in
     let put = put_last (flash c.args.nand.now) c.args.self.now (flash c.advance-2.new.nand) (flash c.put_page-2.new.nand) c.advance-2.new.self c.loop-entry.packer c.args.entries.now total now c.put_page-2.ensures.left (inv.some some) inv.size c.requires.ring c.requires.number in
     on_err _ _ (last_left (flash c.args.nand.now) c.args.self.now (flash c.advance-2.new.nand) (flash c.put_page-2.new.nand) c.advance-2.new.self c.loop-entry.packer c.args.entries.now total now.way put now.less)
@@ -237,7 +237,7 @@ returns-in_err-put_page-clause-stops g c =
     let all : take i items ≡ c.args.entries.now = take_all _ _ c.loop-entry-test.false ∙ same in
     let less : inv.way.pages + 1 ≤ total = omega (arith, left.1, ap pages_of same) in
     let ok = c.in_ok-advance.ensures in
-    let before = ready (flash c.args.nand.now) c.args.self.now (flash c.loop-entry.nand) c.loop-entry.self (flash c.advance-2.new.nand) c.advance-2.new.self c.loop-entry.packer (take i items) total inv.way ok.ok ok.place ok.outside ok.behind ok.works ok.inner c.advance-2.ensures.ring left.0 less in
+    let before = ready (flash c.args.nand.now) c.args.self.now (flash c.loop-entry.nand) c.loop-entry.self (flash c.advance-2.new.nand) c.advance-2.new.self c.loop-entry.packer (take i items) total inv.way ok.ok ok.place ok.outside ok.behind (ok.works, ok.exact) ok.inner c.advance-2.ensures.ring left.0 less in
     let now = subst (λ taken. IsReady (flash c.args.nand.now) c.args.self.now (flash c.advance-2.new.nand) c.advance-2.new.self c.loop-entry.packer taken total) all before in
     let p = err_from_is_err_and c.from_residual-in_err-put_page.result c.from_residual-in_err-put_page.ensures.1 in
     rw (p.1, p.2) (put_stops (flash c.args.nand.now) c.args.self.now (flash c.advance-2.new.nand) c.advance-2.new.self (flash c.put_page-2.new.nand) c.loop-entry.packer c.args.entries.now _ total now.way c.in_err-put_page.ensures.stops now.less now.room)
@@ -256,7 +256,7 @@ returns-clause-ok g c =
     let all : take i items ≡ c.args.entries.now = take_all _ _ c.loop-entry-test.false ∙ same in
     let less : inv.way.pages + 1 ≤ total = omega (arith, left.1, ap pages_of same) in
     let ok = c.in_ok-advance.ensures in
-    let before = ready (flash c.args.nand.now) c.args.self.now (flash c.loop-entry.nand) c.loop-entry.self (flash c.advance-2.new.nand) c.advance-2.new.self c.loop-entry.packer (take i items) total inv.way ok.ok ok.place ok.outside ok.behind ok.works ok.inner c.advance-2.ensures.ring left.0 less in
+    let before = ready (flash c.args.nand.now) c.args.self.now (flash c.loop-entry.nand) c.loop-entry.self (flash c.advance-2.new.nand) c.advance-2.new.self c.loop-entry.packer (take i items) total inv.way ok.ok ok.place ok.outside ok.behind (ok.works, ok.exact) ok.inner c.advance-2.ensures.ring left.0 less in
     let now = subst (λ taken. IsReady (flash c.args.nand.now) c.args.self.now (flash c.advance-2.new.nand) c.advance-2.new.self c.loop-entry.packer taken total) all before in
     let done : inv.way.pages + 1 ≡ total = last_is (length c.loop-entry.packer.bytes) inv.way.pages (room_of c.args.self.now) (room_of c.loop-entry.self) items i begin c.loop-entry-test.false inv.way.behind.room inv.room ∙ ap pages_of same in
     let put = put_last (flash c.args.nand.now) c.args.self.now (flash c.advance-2.new.nand) (flash c.put_page-2.new.nand) c.advance-2.new.self c.loop-entry.packer c.args.entries.now total now c.put_page-2.ensures.left (inv.some some) inv.size c.requires.ring c.requires.number in
@@ -277,7 +277,7 @@ returns-clause-behind g c =
     let all : take i items ≡ c.args.entries.now = take_all _ _ c.loop-entry-test.false ∙ same in
     let less : inv.way.pages + 1 ≤ total = omega (arith, left.1, ap pages_of same) in
     let ok = c.in_ok-advance.ensures in
-    let before = ready (flash c.args.nand.now) c.args.self.now (flash c.loop-entry.nand) c.loop-entry.self (flash c.advance-2.new.nand) c.advance-2.new.self c.loop-entry.packer (take i items) total inv.way ok.ok ok.place ok.outside ok.behind ok.works ok.inner c.advance-2.ensures.ring left.0 less in
+    let before = ready (flash c.args.nand.now) c.args.self.now (flash c.loop-entry.nand) c.loop-entry.self (flash c.advance-2.new.nand) c.advance-2.new.self c.loop-entry.packer (take i items) total inv.way ok.ok ok.place ok.outside ok.behind (ok.works, ok.exact) ok.inner c.advance-2.ensures.ring left.0 less in
     let now = subst (λ taken. IsReady (flash c.args.nand.now) c.args.self.now (flash c.advance-2.new.nand) c.advance-2.new.self c.loop-entry.packer taken total) all before in
     let done : inv.way.pages + 1 ≡ total = last_is (length c.loop-entry.packer.bytes) inv.way.pages (room_of c.args.self.now) (room_of c.loop-entry.self) items i begin c.loop-entry-test.false inv.way.behind.room inv.room ∙ ap pages_of same in
     subst (λ p. IsBehind c.args.self.now total (turns_for c.args.self.now total) p) (sym c.in_ok-put_page.ensures.next)
@@ -297,7 +297,26 @@ returns-clause-works g c =
     let all : take i items ≡ c.args.entries.now = take_all _ _ c.loop-entry-test.false ∙ same in
     let less : inv.way.pages + 1 ≤ total = omega (arith, left.1, ap pages_of same) in
     let ok = c.in_ok-advance.ensures in
-    let before = ready (flash c.args.nand.now) c.args.self.now (flash c.loop-entry.nand) c.loop-entry.self (flash c.advance-2.new.nand) c.advance-2.new.self c.loop-entry.packer (take i items) total inv.way ok.ok ok.place ok.outside ok.behind ok.works ok.inner c.advance-2.ensures.ring left.0 less in
+    let before = ready (flash c.args.nand.now) c.args.self.now (flash c.loop-entry.nand) c.loop-entry.self (flash c.advance-2.new.nand) c.advance-2.new.self c.loop-entry.packer (take i items) total inv.way ok.ok ok.place ok.outside ok.behind (ok.works, ok.exact) ok.inner c.advance-2.ensures.ring left.0 less in
     let now = subst (λ taken. IsReady (flash c.args.nand.now) c.args.self.now (flash c.advance-2.new.nand) c.advance-2.new.self c.loop-entry.packer taken total) all before in
     let done : inv.way.pages + 1 ≡ total = last_is (length c.loop-entry.packer.bytes) inv.way.pages (room_of c.args.self.now) (room_of c.loop-entry.self) items i begin c.loop-entry-test.false inv.way.behind.room inv.room ∙ ap pages_of same in
-    group_works (flash c.args.nand.now) c.args.self.now (flash c.advance-2.new.nand) (flash c.put_page-2.new.nand) c.advance-2.new.self c.loop-entry.packer c.args.entries.now total now (omega arith) c.in_ok-put_page.ensures.works
+    (group_begins (flash c.args.nand.now) c.args.self.now (flash c.advance-2.new.nand) (flash c.put_page-2.new.nand) c.advance-2.new.self c.loop-entry.packer c.args.entries.now total now (omega arith) (c.in_ok-put_page.ensures.works, c.in_ok-put_page.ensures.exact)).0
+
+pub returns-clause-exact : goal.returns-clause-exact
+returns-clause-exact g c =
+    let flash = g.N.Nand.flash in
+    let inv = c.loop-entry.invariant in
+    let items = c.as_slice-entry-items.result.now in
+    let i = c.loop-entry.entry-index in
+    let same = c.as_slice-entry-items.ensures in
+    let total = pages_of c.args.entries.now in
+    let some : 0 < i = omega (arith, ap length same, c.requires.some, c.loop-entry-test.false) in
+    let begin = pages_begin items (omega (arith, ap length same, c.requires.some)) (inv.first some) in
+    let left = room_left (length c.loop-entry.packer.bytes) inv.way.pages (room_of c.args.self.now) (room_of c.loop-entry.self) items i begin (rw same c.requires.room) inv.way.behind.room inv.room in
+    let all : take i items ≡ c.args.entries.now = take_all _ _ c.loop-entry-test.false ∙ same in
+    let less : inv.way.pages + 1 ≤ total = omega (arith, left.1, ap pages_of same) in
+    let ok = c.in_ok-advance.ensures in
+    let before = ready (flash c.args.nand.now) c.args.self.now (flash c.loop-entry.nand) c.loop-entry.self (flash c.advance-2.new.nand) c.advance-2.new.self c.loop-entry.packer (take i items) total inv.way ok.ok ok.place ok.outside ok.behind (ok.works, ok.exact) ok.inner c.advance-2.ensures.ring left.0 less in
+    let now = subst (λ taken. IsReady (flash c.args.nand.now) c.args.self.now (flash c.advance-2.new.nand) c.advance-2.new.self c.loop-entry.packer taken total) all before in
+    let done : inv.way.pages + 1 ≡ total = last_is (length c.loop-entry.packer.bytes) inv.way.pages (room_of c.args.self.now) (room_of c.loop-entry.self) items i begin c.loop-entry-test.false inv.way.behind.room inv.room ∙ ap pages_of same in
+    (group_begins (flash c.args.nand.now) c.args.self.now (flash c.advance-2.new.nand) (flash c.put_page-2.new.nand) c.advance-2.new.self c.loop-entry.packer c.args.entries.now total now (omega arith) (c.in_ok-put_page.ensures.works, c.in_ok-put_page.ensures.exact)).1
