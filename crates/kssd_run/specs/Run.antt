@@ -1,5 +1,7 @@
 -- A run in memory, and the run that it stands for in an image.
-use Rattle.std.specs.Prelude.{◌≡◌, ◌<◌, ℕ, List, [], get_or}
+use Rattle.std.specs.Prelude.{◌≡◌, ◌<◌, ℕ, false, List, [], get_or}
+use Rattle.std.specs.List.{list_any}
+use Rattle.kssd_model.specs.Rising.{is_gone}
 use Rattle.kv_nand.specs.Flash.{Image}
 use Rattle.kssd_model.specs.declared.runs.RunInfo.{RunInfo}
 use Rattle.kssd_model.specs.RunPages.{run_page, page_entries, run_entries, first_key, IsRunIn, IsGoodRun}
@@ -29,3 +31,11 @@ abbrev pub RunStays : Type 0
 RunStays =
     (run : Run) (device : ℕ) (old new : Image) → SamePages (run_info run).blocks (run_info run).pages old new → StandsRun run device old
     → StandsRun run device new × (run_entries new (run_info run) ≡ run_entries old (run_info run))
+
+-- a run that isn't damaged isn't so either where its pages are as they are
+abbrev pub GoodRunsStay : Type 0
+GoodRunsStay = (info : RunInfo) (old new : Image) → SamePages info.blocks info.pages old new → IsGoodRun old info → IsGoodRun new info
+
+-- a run that stands isn't damaged, where the base has no deletion mark
+abbrev pub StandingRunsAreGood : Type 0
+StandingRunsAreGood = (info : RunInfo) (device : ℕ) (image : Image) → IsRunIn info device image → (info.level ≡ 2 → list_any is_gone (run_entries image info) ≡ false) → IsGoodRun image info

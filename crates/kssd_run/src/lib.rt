@@ -11,7 +11,7 @@ mod writer;
 
 pub use fault::RunFault;
 pub use index::FirstKeys;
-pub use laws::{runs_stay, writers_count, writers_stay};
+pub use laws::{good_runs_stay, runs_stay, standing_runs_are_good, writers_count, writers_stay};
 pub use reader::Run;
 pub use writer::{Fed, RunWriter};
 

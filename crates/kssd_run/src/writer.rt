@@ -43,7 +43,7 @@ pub struct RunWriter {
 }
 
 impl RunWriter {
-    ghost use Rattle.kssd_run.specs.Writing.{Writes, IsStarted, page_waits, is_closed, fills_page, CanStep, next_block, pages_written, run_blocks, entries_fed, KeepsPlace, Steps, IsWritten};
+    ghost use Rattle.kssd_run.specs.Writing.{Writes, IsStarted, page_waits, is_closed, fills_page, CanStep, next_block, pages_written, blocks_begun, run_blocks, entries_fed, KeepsPlace, Steps, IsWritten};
     ghost use Rattle.kv_nand.specs.Flash.{Image};
 
     /// A run without entries, which is to stand in these blocks.
@@ -114,6 +114,27 @@ impl RunWriter {
         ensures { result ≡ page_waits self.now }
     {
         self.waits
+    }
+
+    /// How many pages are programmed.
+    pub fn pages(&self) -> u32
+        ensures { result ≡ pages_written self.now }
+    {
+        self.info.pages
+    }
+
+    /// How many of its blocks are erased.
+    pub fn begun(&self) -> u32
+        ensures { result ≡ blocks_begun self.now }
+    {
+        self.begun
+    }
+
+    /// The blocks for it.
+    pub fn blocks(&self) -> &BlockList
+        ensures { result.now ≡ run_blocks self.now }
+    {
+        &self.info.blocks
     }
 
     /// Whether the blocks have room for one more page.
