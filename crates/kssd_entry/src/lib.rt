@@ -15,6 +15,3 @@ pub use fault::PageFault;
 pub use inline::{InlineValue, MAX_INLINE, PageLength};
 pub use packer::{Offer, PageHead, PagePacker};
 pub use page::{PageEntries, page_head, read_page};
-
-#[cfg(test)]
-mod tests;

@@ -1,5 +1,5 @@
 -- Reads one after another.
-use Rattle.std.proofs.Common.{◌≡◌, ◌∙◌, ℕ, ◌+◌, ◌≤◌, ◌<◌, ◌^◌, List, refl, ap, sym, arith, inl, inr, true, false}
+use Rattle.std.proofs.Common.{◌≡◌, ◌∙◌, ℕ, ◌≤◌, ◌<◌, ◌^◌, List, refl, ap, sym, arith}
 use Rattle.kv_nand.specs.declared.fault.NandFault.{NandFault}
 use Rattle.kv_nand.specs.declared.fault.NandFault.TheVariants as nand_faults
 use Rattle.kv_nand.specs.declared.fault.FlashFault.{FlashFault}

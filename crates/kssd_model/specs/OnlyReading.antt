@@ -1,5 +1,5 @@
 -- What a call leaves of the flash that reads it, and programs and erases nothing.
-use Rattle.std.specs.Prelude.{◌≡◌, ◌≤◌, ℕ, true, false}
+use Rattle.std.specs.Prelude.{◌≡◌, ◌≤◌, true, false}
 use Rattle.kv_nand.specs.declared.fault.FlashFault.{FlashFault}
 use Rattle.kv_nand.specs.declared.fault.FlashFault.TheVariants.{Off, Failed, Memory}
 use Rattle.kv_nand.specs.Flash.{Flash}

@@ -11,6 +11,3 @@ mod state;
 
 pub use fault::ImageFault;
 pub use mem_nand::MemNand;
-
-#[cfg(test)]
-mod tests;

@@ -1,4 +1,4 @@
-use Rattle.std.proofs.Common.{◌≡◌, true, rules}
+use Rattle.std.proofs.Common.{rules}
 use Rattle.std.proofs.lemmas.List.Sorted.{IsPartitionPoint-from_clause}
 use Rattle.kssd_model.specs.Rising.{is_below}
 use Rattle.kssd_model.proofs.RisingEntries.{is_partitioned, place_from_point}

@@ -1,17 +1,8 @@
-use super::*;
-use kv_base::{DATA_BYTES, Key, PageData, Value};
+use crate::entries::{gone, put};
+use kssd_entry::{Entry, Offer, PageFault, PageHead, PageLength, PagePacker, page_head, read_page};
+use kv_base::{DATA_BYTES, Key, PageData};
 use std::alloc::Global;
 use std::test::*;
-
-fn put(alloc: Global, key: &[u8], value: &[u8]) -> Option<Entry> {
-    let key = Key::new(alloc, key).ok()?;
-    let value = Value::new(alloc, value).ok()?;
-    if value.bytes().len() > MAX_INLINE {
-        return None;
-    }
-    let value = InlineValue::new(value);
-    Some(Entry::Put { key, value })
-}
 
 fn at(alloc: Global, key: &[u8], page: u32, length: u16) -> Option<Entry> {
     let key = Key::new(alloc, key).ok()?;
@@ -20,11 +11,6 @@ fn at(alloc: Global, key: &[u8], page: u32, length: u16) -> Option<Entry> {
     }
     let length = PageLength::new(length);
     Some(Entry::At { key, page, length })
-}
-
-fn gone(alloc: Global, key: &[u8]) -> Option<Entry> {
-    let key = Key::new(alloc, key).ok()?;
-    Some(Entry::Gone { key })
 }
 
 const RUN: PageHead = PageHead {

@@ -1,6 +1,6 @@
-use super::*;
 use kv_base::{PageData, Text};
 use kv_nand::{Nand, NandFault, OpKind, Outcome, PageKind, PlannedNand};
+use nand_mem::{ImageFault, MemNand};
 use std::alloc::Global;
 use std::test::*;
 
