@@ -1,5 +1,5 @@
 -- Which entry is next, by the side on which it stands.
-use Rattle.std.proofs.Common.{◌≡◌, ◌∙◌, true, List, [], ◌∷◌, refl, sym, ap, Option, Some, None}
+use Rattle.std.proofs.Common.{◌≡◌, ◌∙◌, true, List, [], ◌∷◌, refl, sym, ap}
 use Rattle.std.specs.Prelude.{drop}
 use Rattle.std.specs.declared.cmp.Ordering.{Ordering}
 use Rattle.std.specs.declared.cmp.Ordering.TheVariants.{Less, Equal, Greater}
@@ -7,7 +7,6 @@ use Rattle.kssd_entry.specs.declared.entry.Entry.{Entry}
 use Rattle.kssd_entry.specs.Spelling.{key_of}
 use Rattle.kssd_model.specs.Rising.{key_cmp, is_rising, merged, by_order}
 use Rattle.kssd_model.proofs.RisingEntries.{merged_newer, merged_both, merged_older, above_first}
-use Rattle.kssd_merge.specs.declared.merge.Side.{Side}
 use Rattle.kssd_merge.specs.declared.merge.Side.TheVariants.{Neither, Newer, Older, Both}
 use Rattle.kssd_merge.specs.Sides.{side_in}
 

@@ -1,3 +1,4 @@
+pub mod Same
 pub mod Merge
 pub mod Sides
 pub mod Listed

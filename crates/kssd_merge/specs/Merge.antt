@@ -1,5 +1,5 @@
 -- What is next in two lists of entries that are read as one.
-use Rattle.std.specs.Prelude.{◌≡◌, ℕ, Bool, true, false, List, [], ◌∷◌, Option, None, Some, if◌then◌else◌}
+use Rattle.std.specs.Prelude.{◌≡◌, Bool, false, List, [], ◌∷◌, Option, None, Some, if◌then◌else◌}
 use Rattle.kssd_entry.specs.declared.entry.Entry.{Entry}
 use Rattle.kssd_entry.specs.declared.entry.Entry.TheVariants.{Put, At, Gone}
 use Rattle.kssd_model.specs.Rising.{is_gone}

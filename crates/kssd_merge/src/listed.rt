@@ -1,4 +1,4 @@
-ghost use Rattle.std.specs.Prelude.{◌≡◌, ◌≢◌, [], true, OnOk, IfErr, option_copied, slice_get, drop};
+ghost use Rattle.std.specs.Prelude.{◌≡◌, ◌≢◌, [], ℕ, true, OnOk, IfErr, option_copied, slice_get, drop, refl};
 ghost use Rattle.kssd_model.specs.Rising.{is_rising};
 ghost use Rattle.kssd_model.specs.OnlyReading.{OnlyReads, StopsReading};
 
@@ -31,9 +31,11 @@ impl Ordered for Listed {
     ghost use Rattle.kssd_merge.specs.Listed.{listed_rest};
     ghost use Rattle.kv_nand.specs.Flash.{Image};
 
-    ghost rest = { listed_rest };
+    ghost rest = { λ source _. listed_rest source };
 
     ghost stands = { λ _ _ _. Unit {0} };
+
+    ghost houses = { λ _. [] };
 
     fn peek(&self) -> Option<&Entry> {
         self.entries.as_slice().get(self.passed)
@@ -48,5 +50,7 @@ impl Ordered for Listed {
         Ok(())
     }
 
-    ghost rising = { λ source. source.rising };
+    ghost rising = { λ source _ _ _. source.rising };
+
+    ghost stays = { λ _ _ _ _ _ _. (tt, refl) };
 }

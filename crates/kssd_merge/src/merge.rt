@@ -1,4 +1,5 @@
-ghost use Rattle.std.specs.Prelude.{◌≡◌, ◌≢◌, ◌∷◌, [], IfOk, OnOk, IfErr};
+ghost use Rattle.std.specs.Prelude.{◌≡◌, ◌≢◌, ◌∷◌, [], ℕ, IfOk, OnOk, IfErr};
+ghost use Rattle.kv_nand.specs.Flash.{Image};
 ghost use Rattle.kssd_merge.specs.Merge.{IsNext, counting, is_dropped_mark};
 ghost use Rattle.kssd_merge.specs.Sides.{side_in};
 ghost use Rattle.kssd_model.specs.OnlyReading.{OnlyReads, StopsReading};
@@ -22,9 +23,11 @@ pub fn merge_next<N: Nand, A: Ordered, B: Ordered>(
 ) -> Result<Option<Entry>, FlashFault>
     requires newer_stands { A.stands newer.old (N.flash nand.old).blocks (N.flash nand.old).image }
     requires older_stands { B.stands older.old (N.flash nand.old).blocks (N.flash nand.old).image }
-    ensures next { IfOk result (λ next. IsNext (counting drop_gone (merged (A.rest newer.old) (B.rest older.old))) next (merged (A.rest newer.new) (B.rest older.new))) }
-    ensures newer_stands { OnOk result (A.stands newer.new (N.flash nand.new).blocks (N.flash nand.new).image) }
-    ensures older_stands { OnOk result (B.stands older.new (N.flash nand.new).blocks (N.flash nand.new).image) }
+    ensures next { IfOk result (λ next. IsNext (counting drop_gone (merged (A.rest newer.old (N.flash nand.old).image) (B.rest older.old (N.flash nand.old).image))) next (merged (A.rest newer.new (N.flash nand.old).image) (B.rest older.new (N.flash nand.old).image))) }
+    ensures newer_stands { OnOk result (A.stands newer.new (N.flash nand.old).blocks (N.flash nand.old).image) }
+    ensures older_stands { OnOk result (B.stands older.new (N.flash nand.old).blocks (N.flash nand.old).image) }
+    ensures newer_housed { OnOk result (A.houses newer.new ≡ A.houses newer.old) }
+    ensures older_housed { OnOk result (B.houses older.new ≡ B.houses older.old) }
     ensures reads { OnOk result (OnlyReads (N.flash nand.old) (N.flash nand.new)) }
     ensures err { IfErr result (λ fault. StopsReading (N.flash nand.old) fault (N.flash nand.new)) }
 {
@@ -56,7 +59,7 @@ enum Side {
 }
 
 fn side_of<A: Ordered, B: Ordered>(newer: &A, older: &B) -> Side
-    ensures { result ≡ side_in (A.rest newer.now) (B.rest older.now) }
+    ensures { (device : ℕ) (image : Image) → A.stands newer.now device image → B.stands older.now device image → result ≡ side_in (A.rest newer.now image) (B.rest older.now image) }
 {
     match newer.peek() {
         None => match older.peek() {
@@ -80,10 +83,11 @@ fn taken<N: Nand, S: Ordered>(
     nand: &mut N,
     source: &mut S,
 ) -> Result<Entry, FlashFault>
-    requires some { S.rest source.old ≢ [] }
+    requires some { S.rest source.old (N.flash nand.old).image ≢ [] }
     requires stands { S.stands source.old (N.flash nand.old).blocks (N.flash nand.old).image }
-    ensures ok { IfOk result (λ entry. S.rest source.old ≡ entry ∷ S.rest source.new) }
-    ensures still { OnOk result (S.stands source.new (N.flash nand.new).blocks (N.flash nand.new).image) }
+    ensures ok { IfOk result (λ entry. S.rest source.old (N.flash nand.old).image ≡ entry ∷ S.rest source.new (N.flash nand.old).image) }
+    ensures still { OnOk result (S.stands source.new (N.flash nand.old).blocks (N.flash nand.old).image) }
+    ensures housed { OnOk result (S.houses source.new ≡ S.houses source.old) }
     ensures reads { OnOk result (OnlyReads (N.flash nand.old) (N.flash nand.new)) }
     ensures err { IfErr result (λ fault. StopsReading (N.flash nand.old) fault (N.flash nand.new)) }
 {
@@ -104,9 +108,11 @@ fn next_of<N: Nand, A: Ordered, B: Ordered>(
 ) -> Result<Option<Entry>, FlashFault>
     requires newer_stands { A.stands newer.old (N.flash nand.old).blocks (N.flash nand.old).image }
     requires older_stands { B.stands older.old (N.flash nand.old).blocks (N.flash nand.old).image }
-    ensures next { IfOk result (λ next. IsNext (merged (A.rest newer.old) (B.rest older.old)) next (merged (A.rest newer.new) (B.rest older.new))) }
-    ensures newer_stands { OnOk result (A.stands newer.new (N.flash nand.new).blocks (N.flash nand.new).image) }
-    ensures older_stands { OnOk result (B.stands older.new (N.flash nand.new).blocks (N.flash nand.new).image) }
+    ensures next { IfOk result (λ next. IsNext (merged (A.rest newer.old (N.flash nand.old).image) (B.rest older.old (N.flash nand.old).image)) next (merged (A.rest newer.new (N.flash nand.old).image) (B.rest older.new (N.flash nand.old).image))) }
+    ensures newer_stands { OnOk result (A.stands newer.new (N.flash nand.old).blocks (N.flash nand.old).image) }
+    ensures older_stands { OnOk result (B.stands older.new (N.flash nand.old).blocks (N.flash nand.old).image) }
+    ensures newer_housed { OnOk result (A.houses newer.new ≡ A.houses newer.old) }
+    ensures older_housed { OnOk result (B.houses older.new ≡ B.houses older.old) }
     ensures reads { OnOk result (OnlyReads (N.flash nand.old) (N.flash nand.new)) }
     ensures err { IfErr result (λ fault. StopsReading (N.flash nand.old) fault (N.flash nand.new)) }
 {
