@@ -10,3 +10,4 @@ pub mod Stepping
 pub mod RunBlocks
 pub mod Merely
 pub mod Staying
+pub mod Seeking

@@ -31,7 +31,7 @@ greater Less h = absurd (true≢false h)
 greater Equal h = absurd (true≢false h)
 greater Greater h = refl
 
-below_rising : (xs ys : List Entry) → is_rising (xs ++ ys) ≡ true → 0 < length ys → is_below_all (first_key ys) xs ≡ true
+pub below_rising : (xs ys : List Entry) → is_rising (xs ++ ys) ≡ true → 0 < length ys → is_below_all (first_key ys) xs ≡ true
 below_rising xs [] h some = absurd (omega arith)
 below_rising [] (y ∷ ys) h some = refl
 below_rising (x ∷ xs) (y ∷ ys) h some =
@@ -45,21 +45,21 @@ below_find b key (x ∷ xs) h le =
     ap (λ t. cond t (Some x) (find_entry xs key)) (has_no_key key x Less (below_upto (key_of x) b key (less _ p.0) le) refl)
     ∙ below_find b key xs p.1 le
 
-below_from : (b key : List ℕ) (xs : List Entry) → is_below_all b xs ≡ true → is_le (key_cmp b key) ≡ true → entries_from xs key ≡ []
+pub below_from : (b key : List ℕ) (xs : List Entry) → is_below_all b xs ≡ true → is_le (key_cmp b key) ≡ true → entries_from xs key ≡ []
 below_from b key [] h le = refl
 below_from b key (x ∷ xs) h le =
     let p = and_parts _ _ h in
     ap (λ t. cond (not t) (x ∷ entries_from xs key) (entries_from xs key)) (ap is_lt (below_upto (key_of x) b key (less _ p.0) le))
     ∙ below_from b key xs p.1 le
 
-above_from : (key : List ℕ) (xs : List Entry) → is_above_all key xs ≡ true → entries_from xs key ≡ xs
+pub above_from : (key : List ℕ) (xs : List Entry) → is_above_all key xs ≡ true → entries_from xs key ≡ xs
 above_from key [] h = refl
 above_from key (x ∷ xs) h =
     let p = and_parts _ _ h in
     ap (λ t. cond (not t) (x ∷ entries_from xs key) (entries_from xs key)) (ap is_lt (turned key (key_of x) Less (less _ p.0)))
     ∙ ap (λ (t : List Entry). x ∷ t) (above_from key xs p.1)
 
-above_head : (key : List ℕ) (xs : List Entry) → is_rising xs ≡ true → 0 < length xs → is_le (key_cmp (first_key xs) key) ≡ false → is_above_all key xs ≡ true
+pub above_head : (key : List ℕ) (xs : List Entry) → is_rising xs ≡ true → 0 < length xs → is_le (key_cmp (first_key xs) key) ≡ false → is_above_all key xs ≡ true
 above_head key [] h some gt = absurd (omega arith)
 above_head key (x ∷ xs) h some gt = above_first key x xs h (turned (key_of x) key Greater (greater _ gt))
 
@@ -70,7 +70,7 @@ pub record ArePages (page : ℕ → List Entry) (n : ℕ) : Type 0 where
   pub filled : (i : ℕ) → i < n → 0 < length (page i)
   pub rising : is_rising (joined page n) ≡ true
 
-fewer : (page : ℕ → List Entry) (n : ℕ) → ArePages page (suc n) → ArePages page n
+pub fewer : (page : ℕ → List Entry) (n : ℕ) → ArePages page (suc n) → ArePages page n
 fewer page n h = record { filled = λ i lt. h.filled i (omega arith); rising = rising_first (joined page n) (page n) h.rising }
 
 pub first_pages : (page : ℕ → List Entry) (n m : ℕ) → m ≤ n → ArePages page n → ArePages page m

@@ -7,7 +7,7 @@ ghost use Rattle.kssd_run.specs.Page.{HasEntries};
 ghost use Rattle.kssd_run.specs.Opening.{IsNextPage, NextFails, AddFails, EndFails, OpenFails};
 ghost use Rattle.kssd_model.specs.declared.runs.RunInfo as runs;
 ghost use Rattle.kv_nand.specs.Flash.{Image};
-ghost use Rattle.kssd_run.specs.Pages.{GivesFrom, rest_before};
+ghost use Rattle.kssd_run.specs.Pages.{GivesFrom, IsSplitAt, rest_before};
 
 use crate::RunFault;
 use crate::index::FirstKeys;
@@ -240,6 +240,34 @@ impl Run {
         Ok(copies_of(alloc, rest_from(entries.as_slice(), key))?)
     }
 
+    /// The entries from a key on in the first page that has any, and the index of the page behind it.
+    /// At most two pages are read.
+    pub fn seek<N: Nand>(
+        &self,
+        alloc: Global,
+        nand: &mut N,
+        key: &Key,
+    ) -> Result<(u32, Entries), FlashFault>
+        requires { StandsRun self.now (N.flash nand.old).blocks (N.flash nand.old).image }
+        ensures found { IfOk result (λ found. GivesFrom (page_entries (N.flash nand.old).image (run_info self.now).number (run_info self.now).blocks) (run_info self.now).pages key.now found.1) }
+        ensures behind { IfOk result (λ found. IsSplitAt (page_entries (N.flash nand.old).image (run_info self.now).number (run_info self.now).blocks) (run_info self.now).pages key.now found.1 found.0) }
+        ensures reads { OnOk result (OnlyReads (N.flash nand.old) (N.flash nand.new)) }
+        ensures few { (N.flash nand.new).reads ≤ (N.flash nand.old).reads + 2 }
+        ensures err { IfErr result (λ fault. StopsReading (N.flash nand.old) fault (N.flash nand.new)) }
+    {
+        let upto = self.firsts.pages_upto(key);
+        let rest = self.rest_at(alloc, nand, upto, key)?;
+        let _pages = self.info.pages;
+        if rest.len() > 0 {
+            return Ok((upto as u32, rest));
+        }
+        if upto >= self.firsts.len() {
+            return Ok((upto as u32, rest));
+        }
+        let page = self.read_at(alloc, nand, upto)?;
+        Ok((upto as u32 + 1, page))
+    }
+
     /// The entries from a key on in the first page that has any; none exactly where none is left.
     /// At most two pages are read.
     pub fn page_from<N: Nand>(
@@ -254,15 +282,8 @@ impl Run {
         ensures few { (N.flash nand.new).reads ≤ (N.flash nand.old).reads + 2 }
         ensures err { IfErr result (λ fault. StopsReading (N.flash nand.old) fault (N.flash nand.new)) }
     {
-        let upto = self.firsts.pages_upto(key);
-        let rest = self.rest_at(alloc, nand, upto, key)?;
-        if rest.len() > 0 {
-            return Ok(rest);
-        }
-        if upto >= self.firsts.len() {
-            return Ok(rest);
-        }
-        self.read_at(alloc, nand, upto)
+        let (_, found) = self.seek(alloc, nand, key)?;
+        Ok(found)
     }
 
     /// Where it stands, and how large it is.
