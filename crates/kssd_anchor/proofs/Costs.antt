@@ -4,7 +4,7 @@ use Rattle.std.specs.Prelude.{◌&&◌, is_some}
 use Rattle.std.specs.Option.{ForSome}
 use Rattle.std.proofs.lemmas.Bool.{true≢false, false≢true, cases_eq, cases_Bool, and_from, and_parts, cond-true, cond-false, false_from_ne_true}
 use Rattle.kv_nand.specs.Flash.{Image, PageState, Erased, Whole, Cut, MayProgram}
-use Rattle.kssd_anchor.specs.Places.{IsFree, SameBehind, is_erased, are_erased, has_free, erases_before, write_cost}
+use Rattle.kssd_anchor.specs.Places.{IsFree, is_erased, are_erased, has_free, erases_before, write_cost}
 
 erased_is : (state : PageState) → is_erased state ≡ true → state ≡ Erased
 erased_is Erased e = refl

@@ -10,6 +10,3 @@ pub use finding::newest;
 pub use kssd_model::{Anchor, BlockList, Found, RunInfo, RunInfos};
 pub use spelling::has_spelling;
 pub use writing::{cost, write};
-
-#[cfg(test)]
-mod tests;

@@ -1,11 +1,10 @@
 -- A ring block is erased in which a new log begins.
-use Rattle.std.proofs.Common.{◌≡◌, ◌∙◌, ◌⊎◌, ℕ, ◌*◌, ◌/◌, ◌<◌, ◌≤◌, List, refl, sym, ap, subst, arith, inl, inr}
-use Rattle.kv_nand.specs.Flash.{Flash, Image, Erased, MayProgram, LeftByErase}
+use Rattle.std.proofs.Common.{◌≡◌, ℕ, ◌*◌, ◌≤◌, sym, ap, subst, arith, inl, inr}
+use Rattle.kv_nand.specs.Flash.{Flash, Image, LeftByErase}
 use Rattle.kv_nand.specs.Calls.{erased}
-use Rattle.kssd_entry.specs.declared.entry.Entry.{Entry}
-use Rattle.kssd_model.specs.Groups.{HasLog, next_block}
+use Rattle.kssd_model.specs.Groups.{next_block}
 use Rattle.kssd_model.proofs.GroupsPaths.{next_in_ring, ends_in_ring}
-use Rattle.kssd_log.specs.Ring.{IsRingPage, begun}
+use Rattle.kssd_log.specs.Ring.{begun}
 use Rattle.kssd_log.specs.Append.{IsPlace, KeepsLogs, StaysOutside}
 use Rattle.kssd_log.proofs.Turning.{erased_log, is_erased}
 

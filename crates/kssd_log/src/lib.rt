@@ -16,6 +16,3 @@ pub use found::Scan;
 pub use groups::Groups;
 pub use ring::Ring;
 pub use scanning::scan;
-
-#[cfg(test)]
-mod tests;

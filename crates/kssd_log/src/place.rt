@@ -1,5 +1,5 @@
 // The next page of the log, and one page programmed there.
-ghost use Rattle.std.specs.Prelude.{◌≡◌, ◌≤◌, ◌<◌, ◌+◌, ◌-◌, ◌*◌, ◌/◌, ◌%◌, ◌^◌, [], length, min, OnOk, OnErr, IfErr};
+ghost use Rattle.std.specs.Prelude.{◌≡◌, ◌≤◌, ◌<◌, ◌+◌, ◌-◌, ◌*◌, ◌/◌, ◌%◌, ◌^◌, [], length, OnOk, OnErr, IfErr};
 ghost use Rattle.kv_nand.specs.Flash.{LeftByProgram};
 ghost use Rattle.kv_nand.specs.Calls.{programmed};
 ghost use Rattle.kv_nand.specs.Faults.{flash_fault};

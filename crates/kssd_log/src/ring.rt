@@ -1,5 +1,5 @@
 // The ring of the log's blocks.
-ghost use Rattle.std.specs.Prelude.{◌≡◌, ◌≤◌, ◌<◌, ◌+◌, ◌*◌, ◌/◌, ◌^◌, List, length, min, ◌-◌, IfOk, OnOk, OnErr, IfErr};
+ghost use Rattle.std.specs.Prelude.{◌≡◌, ◌≤◌, ◌<◌, ◌+◌, ◌*◌, ◌/◌, ◌^◌, List, length, IfOk, OnOk, OnErr, IfErr};
 ghost use Rattle.kv_nand.specs.Working.{Works, Stops, ops_more};
 ghost use Rattle.kssd_entry.specs.declared.entry.Entry.{Entry};
 ghost use Rattle.kssd_log.specs.Ring.{IsInRing, IsBehind, begun, turned, room_of, turns_for};

@@ -10,6 +10,3 @@ pub use laws::newest_wins;
 pub use listed::Listed;
 pub use merge::merge_next;
 pub use ordered::Ordered;
-
-#[cfg(test)]
-mod tests;

@@ -2,10 +2,20 @@
 #![tactic(auto)]
 
 #[cfg(test)]
+mod anchor;
+#[cfg(test)]
 mod entries;
 #[cfg(test)]
 mod entry;
 #[cfg(test)]
 mod layout;
 #[cfg(test)]
+mod log;
+#[cfg(test)]
+mod merge;
+#[cfg(test)]
 mod nand;
+#[cfg(test)]
+mod run;
+#[cfg(test)]
+mod table;

@@ -1,5 +1,5 @@
 -- What is known of a run that stands.
-use Rattle.std.proofs.Common.{◌≡◌, ◌∙◌, ℕ, ◌<◌, List, [], length, get_or, sym, ap}
+use Rattle.std.proofs.Common.{ℕ, List}
 use Rattle.kv_nand.specs.Flash.{Image}
 use Rattle.kssd_entry.specs.declared.entry.Entry.{Entry}
 use Rattle.kssd_model.specs.RunPages.{page_entries}

@@ -1,15 +1,15 @@
 -- Entries by rising keys, one list behind another.
-use Rattle.std.proofs.Common.{◌≡◌, ◌∙◌, ℕ, zero, suc, ◌+◌, ◌-◌, ◌<◌, ◌≤◌, Bool, true, false, ◌&&◌, not, List, [], ◌∷◌, ◌++◌, length, get_or, take, Option, Some, None, refl, sym, ap, subst, arith}
+use Rattle.std.proofs.Common.{◌≡◌, ◌∙◌, ℕ, suc, ◌+◌, ◌-◌, ◌<◌, Bool, true, false, ◌&&◌, List, [], ◌∷◌, ◌++◌, length, get_or, take, Option, Some, None, refl, sym, ap, arith}
 use Rattle.std.specs.Prelude.{slice_get}
 use Rattle.std.specs.Ordering.{is_lt}
 use Rattle.std.specs.declared.cmp.Ordering.{Ordering}
 use Rattle.std.specs.declared.cmp.Ordering.TheVariants.{Less, Equal, Greater}
-use Rattle.std.proofs.lemmas.Bool.{and_parts, and_from, cases_Bool, true≢false, false≢true, false_from_ne_true}
+use Rattle.std.proofs.lemmas.Bool.{and_parts, and_from, true≢false, false≢true, false_from_ne_true}
 use Rattle.std.proofs.lemmas.List.{take_more, get_or_default}
 use Rattle.kssd_entry.specs.declared.entry.Entry.{Entry}
 use Rattle.kssd_entry.specs.Spelling.{key_of}
 use Rattle.kssd_model.specs.Rising.{key_cmp, is_rising}
-use Rattle.kssd_model.proofs.RisingEntries.{is_above_all, above_first, rising_at, above_split}
+use Rattle.kssd_model.proofs.RisingEntries.{above_first, rising_at, above_split}
 use Rattle.kssd_run.specs.Judging.{are_apart, goes_on}
 
 -- the last entry

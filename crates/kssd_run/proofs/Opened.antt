@@ -1,7 +1,7 @@
 -- One more page of a run that is opened.
-use Rattle.std.proofs.Common.{◌≡◌, ◌∙◌, ℕ, suc, ◌+◌, ◌-◌, ◌*◌, ◌/◌, ◌%◌, ◌<◌, ◌≤◌, ◌≢◌, Bool, true, false, ◌&&◌, not, List, [], ◌∷◌, ◌++◌, length, get_or, Option, Some, None, refl, sym, ap, subst, arith, inl, inr, eqb, ltb, cond, length-append, add-one}
+use Rattle.std.proofs.Common.{◌≡◌, ◌∙◌, ℕ, suc, ◌+◌, ◌-◌, ◌*◌, ◌/◌, ◌<◌, ◌≤◌, Bool, true, false, ◌&&◌, not, List, [], ◌∷◌, ◌++◌, length, get_or, Option, Some, None, refl, sym, ap, subst, arith, inl, inr, eqb, ltb, cond, length-append, add-one}
 use Rattle.std.specs.Prelude.{is_some, unwrap_or, slice_get}
-use Rattle.std.specs.List.{list_any, IsDistinct}
+use Rattle.std.specs.List.{list_any}
 use Rattle.std.proofs.lemmas.Bool.{and_parts, cases_lt, or_cases, eqb-true, ltb-true, false≢true}
 use Rattle.std.proofs.lemmas.List.{get_or_append_left, get_or_push, length_push}
 use Rattle.std.proofs.lemmas.Map.Steps.{length-le_from_distinct_below}
@@ -9,8 +9,8 @@ use Rattle.kv_nand.specs.Flash.{Image, Flash}
 use Rattle.kssd_entry.specs.declared.entry.Entry.{Entry}
 use Rattle.kssd_model.specs.declared.runs.RunInfo.{RunInfo}
 use Rattle.kssd_model.specs.Rising.{is_rising, is_gone}
-use Rattle.kssd_model.specs.RunPages.{run_page, page_of_run, page_entries, joined, first_key, is_good_page, AreGoodPages, AreRunBlocks, IsFirstBad}
-use Rattle.kssd_model.specs.OnlyReading.{OnlyReads, StopsReading}
+use Rattle.kssd_model.specs.RunPages.{run_page, page_of_run, page_entries, joined, first_key, is_good_page, AreRunBlocks, IsFirstBad}
+use Rattle.kssd_model.specs.OnlyReading.{OnlyReads}
 use Rattle.kssd_model.proofs.ReadingOn.{reads_image, reads_then_reads, reads_then_stops}
 use Rattle.kssd_layout.specs.Numbers.{region_in}
 use Rattle.kssd_layout.specs.declared.region.Region.TheVariants.{Anchor, Log, Run, Value}
@@ -19,7 +19,7 @@ use Rattle.kssd_entry.specs.Spelling.{key_of}
 use Rattle.kssd_run.specs.declared.reader.Reading.{Reading}
 use Rattle.kssd_run.specs.declared.fault.RunFault.{RunFault}
 use Rattle.kssd_run.specs.declared.fault.RunFault.TheVariants as faults
-use Rattle.kssd_run.specs.Judging.{goes_on, is_good_after}
+use Rattle.kssd_run.specs.Judging.{goes_on}
 use Rattle.kssd_run.specs.Opening.{IsNextPage, is_next, NextFails, AddFails, EndFails, OpenFails}
 use Rattle.kssd_run.specs.Read.{IsReading}
 use Rattle.kssd_run.proofs.GoingOn.{is_rising-append, last_of, last_of-append}

@@ -1,5 +1,5 @@
 -- How many entries a page of a run has.
-use Rattle.std.proofs.Common.{◌≡◌, ◌∙◌, ℕ, ◌+◌, ◌<◌, ◌≤◌, Bool, true, false, eqb, List, [], ◌∷◌, ◌++◌, length, cond, refl, sym, ap, arith, length-append}
+use Rattle.std.proofs.Common.{◌≡◌, ◌∙◌, ℕ, ◌≤◌, true, eqb, List, [], ◌∷◌, length, cond, sym, ap, arith, length-append}
 use Rattle.std.specs.Prelude.{◌&&◌, ◌||◌, nat_le}
 use Rattle.std.proofs.lemmas.Bool.{eq-eqb, and_parts, leb-true}
 use Rattle.std.proofs.lemmas.List.Concat.{flat_map-cons}

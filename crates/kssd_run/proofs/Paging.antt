@@ -1,5 +1,5 @@
 -- Entries by rising keys, page by page.
-use Rattle.std.proofs.Common.{◌≡◌, ◌≢◌, ◌∙◌, ℕ, zero, suc, ◌+◌, ◌-◌, ◌<◌, ◌≤◌, Bool, true, false, cond, not, ◌&&◌, List, [], ◌∷◌, ◌++◌, length, get_or, Option, Some, None, refl, sym, ap, subst, arith, inl, inr, ◌⊎◌}
+use Rattle.std.proofs.Common.{◌≡◌, ◌≢◌, ◌∙◌, ℕ, zero, suc, ◌-◌, ◌<◌, ◌≤◌, Bool, true, false, cond, not, List, [], ◌∷◌, ◌++◌, length, get_or, Option, Some, None, refl, sym, ap, subst, arith, inl, inr}
 use Rattle.std.specs.List.{list_all}
 use Rattle.std.specs.Ordering.{is_le, is_lt}
 use Rattle.std.specs.declared.cmp.Ordering.{Ordering}
@@ -8,11 +8,11 @@ use Rattle.std.proofs.lemmas.Bool.{and_parts, and_from, cases_lt, true≢false, 
 use Rattle.std.proofs.lemmas.List.{nil_from_length, get_or_default}
 use Rattle.kssd_entry.specs.declared.entry.Entry.{Entry}
 use Rattle.kssd_entry.specs.Spelling.{key_of}
-use Rattle.kssd_model.specs.Rising.{key_cmp, has_key, is_below, is_rising, find_entry, entries_from, first_of}
+use Rattle.kssd_model.specs.Rising.{key_cmp, is_below, is_rising, find_entry, entries_from, first_of}
 use Rattle.kssd_model.specs.RunPages.{joined, first_key}
 use Rattle.kssd_model.proofs.RisingEntries.{is_above_all, above_first, above_split, find_above, find-append, has_no_key, turned}
 use Rattle.kssd_run.specs.Index.{IsPageOfKey, RisingKeys}
-use Rattle.kssd_run.specs.Pages.{rest_before, GivesFrom, IsFirstWith}
+use Rattle.kssd_run.specs.Pages.{rest_before, GivesFrom}
 use Rattle.kssd_run.proofs.Keys.{below_upto}
 use Rattle.kssd_run.proofs.GoingOn.{rising_first, rising_second}
 

@@ -1,5 +1,5 @@
 -- What a run in memory keeps where its pages are as they are, and how its counts follow from one another.
-use Rattle.std.proofs.Common.{◌≡◌, ◌∙◌, ℕ, ◌+◌, ◌*◌, ◌<◌, ◌≤◌, true, List, [], ◌++◌, length, Option, zero, suc, Bool, false, inl, inr, add-one, sym, ap, subst, arith}
+use Rattle.std.proofs.Common.{◌≡◌, ◌∙◌, ℕ, ◌+◌, ◌<◌, ◌≤◌, true, List, [], ◌++◌, length, Option, zero, suc, false, inl, inr, sym, ap, subst, arith}
 use Rattle.std.specs.Prelude.{is_some, unwrap_or, not, nat_eq, ◌&&◌}
 use Rattle.std.specs.List.{list_any}
 use Rattle.std.proofs.lemmas.Bool.{and_from, and_left, and_right, or_parts, not_from_false, cases_eq, ne_eqb}
@@ -8,11 +8,9 @@ use Rattle.kv_nand.specs.Flash.{Image}
 use Rattle.kssd_entry.specs.declared.entry.Entry.{Entry}
 use Rattle.kssd_model.specs.declared.runs.RunInfo.{RunInfo}
 use Rattle.kssd_model.specs.Rising.{is_rising, is_gone}
-use Rattle.kssd_model.specs.RunPages.{run_page, run_page_in, page_of_run, page_entries, joined, first_key, run_entries, is_good_page, IsGoodRun}
-use Rattle.kssd_run.specs.declared.writer.RunWriter.{RunWriter}
-use Rattle.kssd_run.specs.declared.reader.Run.{Run}
-use Rattle.kssd_run.specs.Run.{SamePages, RunStays, GoodRunsStay, StandingRunsAreGood, StandsRun}
-use Rattle.kssd_run.specs.Writing.{Writes, IsFullFor, AreFullPages, WritesStay, WriterCounts}
+use Rattle.kssd_model.specs.RunPages.{run_page_in, page_of_run, page_entries, joined, first_key, run_entries, is_good_page}
+use Rattle.kssd_run.specs.Run.{SamePages, RunStays, GoodRunsStay, StandingRunsAreGood}
+use Rattle.kssd_run.specs.Writing.{IsFullFor, WritesStay, WriterCounts}
 use Rattle.kssd_run.proofs.GoingOn.{rising_first}
 use Rattle.kssd_run.proofs.Written.{joined_same}
 

@@ -1,17 +1,15 @@
 -- A step of a writer: the next block is erased, or the page that waits is programmed.
-use Rattle.std.proofs.Common.{◌≡◌, ◌≢◌, ◌∙◌, ℕ, zero, suc, ◌+◌, ◌*◌, ◌/◌, ◌%◌, ◌<◌, ◌≤◌, ◌^◌, Bool, true, false, List, [], ◌∷◌, ◌++◌, length, get_or, Option, Some, None, Ok, cond, refl, sym, ap, subst, arith, inl, inr, add-one, append_assoc}
-use Rattle.std.specs.Prelude.{is_some, unwrap_or, nat_eq, nat_le}
-use Rattle.std.specs.List.{AllByRecursion}
+use Rattle.std.proofs.Common.{◌≡◌, ◌≢◌, ◌∙◌, ℕ, ◌+◌, ◌*◌, ◌/◌, ◌%◌, ◌<◌, ◌≤◌, ◌^◌, Bool, true, false, List, [], ◌∷◌, ◌++◌, length, get_or, Option, Some, None, cond, refl, sym, ap, subst, arith, inl, inr, add-one, append_assoc}
+use Rattle.std.specs.Prelude.{is_some, unwrap_or, nat_eq}
 use Rattle.std.proofs.lemmas.Bool.{and_from, cases_lt, eq-eqb, ne_eqb, le-leb, true≢false, false≢true}
 use Rattle.std.proofs.lemmas.List.{get_or_append_left, get_or_push, length_push}
 use Rattle.std.proofs.lemmas.Map.Keys.{apart_from_distinct}
-use Rattle.kv_nand.specs.Flash.{Image, PageState, Erased, Whole, Cut, MayProgram, with_page, with_erased}
+use Rattle.kv_nand.specs.Flash.{Image, PageState, Erased, Whole, MayProgram, with_page, with_erased}
 use Rattle.kssd_entry.specs.declared.entry.Entry.{Entry}
 use Rattle.kssd_entry.specs.declared.packer.PageHead.{PageHead}
-use Rattle.kssd_entry.specs.Packing.{Packed, packed}
-use Rattle.kssd_entry.specs.Spelling.{FitsEntry, entries_bytes, page_bytes, page_of, is_head, IsPageOf}
-use Rattle.kssd_entry.specs.Reading.{page_at}
-use Rattle.kssd_entry.proofs.Again.{FitsHead, page_again}
+use Rattle.kssd_entry.specs.Packing.{Packed}
+use Rattle.kssd_entry.specs.Spelling.{page_bytes, is_head}
+use Rattle.kssd_entry.proofs.Again.{page_again}
 use Rattle.kssd_model.specs.declared.runs.RunInfo.{RunInfo}
 use Rattle.kssd_model.specs.RunPages.{run_page, of_run, run_page_in, page_of_run, page_entries, joined, first_key, AreRunBlocks}
 use Rattle.kssd_run.specs.declared.writer.RunWriter.{RunWriter}

@@ -1,5 +1,5 @@
 -- The run of what was fed.
-use Rattle.std.proofs.Common.{◌≡◌, ◌∙◌, ℕ, zero, suc, ◌+◌, ◌*◌, ◌/◌, ◌%◌, ◌<◌, ◌≤◌, Bool, true, false, List, [], ◌++◌, length, get_or, take, Option, refl, sym, ap, subst, arith}
+use Rattle.std.proofs.Common.{◌≡◌, ◌∙◌, ℕ, zero, suc, ◌+◌, ◌*◌, ◌/◌, ◌%◌, ◌<◌, ◌≤◌, false, List, [], ◌++◌, length, get_or, take, Option, refl, sym, ap, subst, arith}
 use Rattle.std.specs.Prelude.{is_some, unwrap_or}
 use Rattle.std.proofs.lemmas.Bool.{ltb-false}
 use Rattle.std.proofs.lemmas.List.{append-nil, get_or-take, length-take-le, nil_from_length}
@@ -11,8 +11,7 @@ use Rattle.kssd_model.specs.Rising.{is_rising}
 use Rattle.kssd_model.specs.RunPages.{run_page, run_page_in, page_of_run, page_entries, joined, first_key, run_entries}
 use Rattle.kssd_run.specs.declared.writer.RunWriter.{RunWriter}
 use Rattle.kssd_run.specs.declared.reader.Run.{Run}
-use Rattle.kssd_run.specs.Run.{StandsRun}
-use Rattle.kssd_run.specs.Writing.{Writes, IsWritten, IsFullFor, AreFullPages, fills_page}
+use Rattle.kssd_run.specs.Writing.{Writes, IsWritten, IsFullFor, fills_page}
 use Rattle.kssd_run.proofs.Taking.{nothing_waits}
 
 pub joined_same : (f g : ℕ → List Entry) (n : ℕ) → ((i : ℕ) → i < n → f i ≡ g i) → joined f n ≡ joined g n

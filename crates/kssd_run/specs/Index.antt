@@ -1,5 +1,5 @@
 -- The page of a run that may have a key.
-use Rattle.std.specs.Prelude.{◌≡◌, ◌<◌, ◌≤◌, ℕ, Bool, List, true, false, length, get_or}
+use Rattle.std.specs.Prelude.{◌≡◌, ◌<◌, ◌≤◌, ℕ, List, true, false, length, get_or}
 use Rattle.std.specs.Ordering.{is_le, is_lt}
 use Rattle.kssd_model.specs.Rising.{key_cmp}
 

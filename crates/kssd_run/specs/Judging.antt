@@ -1,5 +1,5 @@
 -- How a page of a run goes on behind the one before it.
-use Rattle.std.specs.Prelude.{Bool, true, ◌&&◌, not, List, [], ◌∷◌, Option, None, Some, ◌-◌, length, slice_get}
+use Rattle.std.specs.Prelude.{Bool, true, ◌&&◌, not, List, Option, None, Some, ◌-◌, length, slice_get}
 use Rattle.std.specs.List.{list_any}
 use Rattle.std.specs.Ordering.{is_lt}
 use Rattle.kssd_entry.specs.declared.entry.Entry.{Entry}

@@ -1,11 +1,10 @@
 -- A run that is written, and what is fed to it.
-use Rattle.std.specs.Prelude.{◌≡◌, ◌≢◌, ◌<◌, ◌≤◌, ◌+◌, ◌*◌, ◌/◌, ℕ, zero, suc, Bool, true, false, not, List, [], ◌∷◌, ◌++◌, length, get_or, take, is_some, nat_lt}
+use Rattle.std.specs.Prelude.{◌≡◌, ◌<◌, ◌≤◌, ◌+◌, ◌*◌, ◌/◌, ℕ, Bool, true, false, not, List, [], ◌∷◌, ◌++◌, length, get_or, take, is_some, nat_lt}
 use Rattle.std.specs.List.{AllByRecursion}
 use Rattle.kv_nand.specs.Flash.{Image, Erased}
 use Rattle.kssd_entry.specs.declared.entry.Entry.{Entry}
 use Rattle.kssd_entry.specs.Packing.{Packed, packed}
 use Rattle.kssd_entry.specs.Spelling.{entry_bytes, entries_bytes, FitsEntry}
-use Rattle.kssd_model.specs.declared.runs.RunInfo.{RunInfo}
 use Rattle.kssd_model.specs.Rising.{is_rising}
 use Rattle.kssd_model.specs.RunPages.{run_page, page_of_run, page_entries, joined, first_key, run_entries}
 use Rattle.kssd_run.specs.declared.writer.RunWriter.{RunWriter}

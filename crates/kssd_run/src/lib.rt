@@ -14,6 +14,3 @@ pub use index::FirstKeys;
 pub use laws::{good_runs_stay, runs_stay, standing_runs_are_good, writers_count, writers_stay};
 pub use reader::Run;
 pub use writer::{Fed, RunWriter};
-
-#[cfg(test)]
-mod tests;

@@ -1,11 +1,10 @@
 -- Looking up a key and putting an entry at the place of its key.
-use Rattle.std.proofs.Common.{◌≡◌, ◌∙◌, ℕ, suc, ◌+◌, ◌<◌, ◌≤◌, Bool, true, false, List, length, get_or, set, take, drop, Option, Some, None, refl, sym, ap, subst, arith, inl, inr, ◌⊎◌, length-set}
-use Rattle.std.specs.Prelude.{insert, IsSome, MatchBool}
-use Rattle.std.proofs.lemmas.Bool.{MatchBool-at_true, MatchBool-at_false}
+use Rattle.std.proofs.Common.{◌≡◌, ◌∙◌, ℕ, ◌<◌, Bool, true, false, List, length, set, Option, Some, None, sym, ap, subst, arith, inl, inr, ◌⊎◌, length-set}
+use Rattle.std.specs.Prelude.{insert, IsSome}
 use Rattle.std.proofs.lemmas.List.Edits.{length-insert}
 use Rattle.kssd_entry.specs.declared.entry.Entry.{Entry}
 use Rattle.kssd_entry.specs.Spelling.{key_of}
-use Rattle.kssd_model.specs.Rising.{is_rising, has_key, find_entry, put_entry, IsPlace, HasAt}
+use Rattle.kssd_model.specs.Rising.{is_rising, find_entry, put_entry, IsPlace, HasAt}
 use Rattle.kssd_model.proofs.RisingEntries.{has_it, has_other, not_found, put_here, put_new, is_rising-put}
 use Rattle.kssd_table.specs.Table.{IsSortedTable}
 

@@ -7,6 +7,3 @@ mod table;
 
 pub use frozen::Frozen;
 pub use table::{MAX_ENTRIES, Table};
-
-#[cfg(test)]
-mod tests;

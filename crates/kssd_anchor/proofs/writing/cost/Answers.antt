@@ -1,4 +1,4 @@
-use Rattle.std.proofs.Common.{◌≡◌, ◌∙◌, ◌+◌, ◌/◌, ℕ, Option, cond, refl, sym, ap}
+use Rattle.std.proofs.Common.{◌∙◌, ◌+◌, ℕ, Option, cond, refl, sym, ap}
 use Rattle.std.specs.Prelude.{is_some}
 use Rattle.kssd_anchor.proofs.Costs.{erases_known}
 use Rattle.kssd_anchor.proofs.writing.cost.Goals as goal

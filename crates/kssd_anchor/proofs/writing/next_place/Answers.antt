@@ -1,4 +1,4 @@
-use Rattle.std.proofs.Common.{◌≡◌, ◌∙◌, ◌+◌, ◌/◌, ℕ, Option, cond, refl, sym, ap, arith}
+use Rattle.std.proofs.Common.{◌≡◌, ◌∙◌, ℕ, Option, cond, refl, sym, ap, arith}
 use Rattle.std.specs.Prelude.{is_some}
 use Rattle.kv_nand.specs.Flash.{Flash}
 use Rattle.kv_nand.specs.Working.{ops_more}

@@ -1,4 +1,4 @@
-use Rattle.std.proofs.Common.{◌≡◌, ◌∙◌, ◌<◌, sym, ap, arith, List, ℕ}
+use Rattle.std.proofs.Common.{◌∙◌, sym, ap}
 use Rattle.std.specs.Ordering.{is_lt}
 use Rattle.kssd_model.specs.Rising.{key_cmp}
 use Rattle.kssd_run.proofs.GoingOn.{rising_one, rising_more, not_rising}

@@ -1,4 +1,4 @@
-use Rattle.std.proofs.Common.{◌≡◌, ◌<◌, take, true}
+use Rattle.std.proofs.Common.{◌≡◌, take, true}
 use Rattle.kssd_model.specs.Rising.{is_rising}
 use Rattle.kssd_run.proofs.judge.rises.Given as goal
 

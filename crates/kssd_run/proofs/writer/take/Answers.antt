@@ -1,4 +1,4 @@
-use Rattle.std.proofs.Common.{◌≡◌, ◌∙◌}
+use Rattle.std.proofs.Common.{◌∙◌}
 use Rattle.kssd_run.proofs.Taking.{first_fits}
 use Rattle.kssd_run.proofs.writer.take.Goals as goal
 

@@ -1,4 +1,4 @@
-use Rattle.std.proofs.Common.{◌≡◌, ◌∙◌, ◌+◌, refl}
+use Rattle.std.proofs.Common.{◌∙◌, ◌+◌, refl}
 use Rattle.kssd_run.proofs.Opened.{reading_on}
 use Rattle.kssd_run.proofs.reader.Reading.add_page.Goals as goal
 

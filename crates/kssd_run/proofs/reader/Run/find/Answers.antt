@@ -1,4 +1,4 @@
-use Rattle.std.proofs.Common.{◌≡◌, ◌∙◌, ℕ, zero, suc, ◌-◌, ◌<◌, List, Option, None, true, sym, ap, arith}
+use Rattle.std.proofs.Common.{◌∙◌, ℕ, ◌-◌, ◌<◌, List, sym, ap, arith}
 use Rattle.kssd_entry.specs.declared.entry.Entry.{Entry}
 use Rattle.kssd_model.specs.Rising.{is_rising, find_entry}
 use Rattle.kssd_run.proofs.Paging.{find-joined, page_rises, in_page_before, in_page_pred}

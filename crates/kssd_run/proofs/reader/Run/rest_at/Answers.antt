@@ -1,4 +1,4 @@
-use Rattle.std.proofs.Common.{◌≡◌, ◌∙◌, ℕ, ◌-◌, ◌<◌, true, ap, arith}
+use Rattle.std.proofs.Common.{◌∙◌, ◌-◌, ◌<◌, ap, arith}
 use Rattle.kssd_model.specs.Rising.{is_rising}
 use Rattle.kssd_run.proofs.Paging.{page_rises}
 use Rattle.kssd_run.proofs.Finding.{page_in, stands_pages}

@@ -1,6 +1,5 @@
-use Rattle.std.proofs.Common.{◌≡◌, ◌∙◌, ℕ, ◌<◌, ◌≤◌, List, sym, ap, arith, length}
+use Rattle.std.proofs.Common.{◌≡◌, ◌∙◌, ◌<◌, ◌≤◌, ap, arith, length}
 use Rattle.kv_nand.specs.Flash.{Image}
-use Rattle.kssd_entry.specs.declared.entry.Entry.{Entry}
 use Rattle.kssd_model.specs.RunPages.{page_entries}
 use Rattle.kssd_model.proofs.ReadingOn.{reads_image}
 use Rattle.kssd_run.proofs.Paging.{gives_rest, gives_nothing, gives_page}

@@ -1,4 +1,4 @@
-use Rattle.std.proofs.Common.{◌≡◌, ◌<◌, ℕ, refl, arith}
+use Rattle.std.proofs.Common.{◌<◌, refl, arith}
 use Rattle.kssd_run.proofs.Taking.{writes_closes}
 use Rattle.kssd_run.proofs.writer.RunWriter.close.Goals as goal
 

@@ -1,4 +1,4 @@
-use Rattle.std.proofs.Common.{◌≡◌, refl}
+use Rattle.std.proofs.Common.{refl}
 use Rattle.kssd_run.proofs.Taking.{writer_takes, writes_takes}
 use Rattle.kssd_run.proofs.writer.RunWriter.feed.Goals as goal
 

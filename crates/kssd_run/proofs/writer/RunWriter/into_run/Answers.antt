@@ -1,5 +1,4 @@
-use Rattle.std.proofs.Common.{◌≡◌, ◌+◌, ◌/◌, refl, ap, List, ℕ}
-use Rattle.std.specs.Prelude.{take}
+use Rattle.std.proofs.Common.{◌+◌, ◌/◌, refl}
 use Rattle.kssd_run.proofs.Written.{is_written}
 use Rattle.kssd_run.proofs.writer.RunWriter.into_run.Goals as goal
 

@@ -1,10 +1,9 @@
-use Rattle.std.proofs.Common.{◌≡◌, ◌∙◌, ℕ, ◌*◌, ◌/◌, ◌<◌, ◌≤◌, get_or, refl, sym, ap, subst, arith}
+use Rattle.std.proofs.Common.{◌≡◌, ◌∙◌, ℕ, ◌*◌, ◌/◌, get_or, refl, sym, ap, subst, arith}
 use Rattle.std.proofs.lemmas.Bool.{true≢false, false≢true}
 use Rattle.std.proofs.Math.Logic.{∥∥₁_elim, ∥∥₁_map}
 use Rattle.std.proofs.lemmas.Option.{get_or_from_slice_get}
 use Rattle.kv_nand.specs.Flash.{Flash, MayProgram, Whole, with_page, with_erased}
 use Rattle.kssd_entry.specs.Spelling.{page_bytes}
-use Rattle.kssd_run.specs.Writing.{next_block}
 use Rattle.kssd_run.proofs.Opened.{few_blocks}
 use Rattle.kssd_model.specs.RunPages.{run_page}
 use Rattle.kssd_run.proofs.Merely.{may_program-prop}

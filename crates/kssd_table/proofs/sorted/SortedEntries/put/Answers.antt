@@ -1,4 +1,4 @@
-use Rattle.std.proofs.Common.{◌≡◌, ◌∙◌, sym, ap, subst, List, length, ◌<◌, ◌⊎◌}
+use Rattle.std.proofs.Common.{◌∙◌, sym, ap, subst, List, length, ◌<◌, ◌⊎◌}
 use Rattle.std.specs.Prelude.{IsSome}
 use Rattle.kssd_entry.specs.declared.entry.Entry.{Entry}
 use Rattle.kssd_entry.specs.Spelling.{key_of}

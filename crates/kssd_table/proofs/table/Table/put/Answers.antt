@@ -1,4 +1,4 @@
-use Rattle.std.proofs.Common.{◌≡◌, ◌∙◌, ap, List, cond, Some}
+use Rattle.std.proofs.Common.{◌∙◌, ap, List, cond, Some}
 use Rattle.std.proofs.lemmas.Result.{on_ok_weaker}
 use Rattle.kssd_entry.specs.declared.entry.Entry.{Entry}
 use Rattle.kssd_model.specs.Rising.{find_entry, has_key}
