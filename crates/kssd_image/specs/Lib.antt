@@ -1,0 +1,2 @@
+pub mod ValuePages
+pub mod Stages
