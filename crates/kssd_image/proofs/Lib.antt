@@ -1,1 +1,3 @@
 pub mod ValuePages
+pub mod LogDamage
+pub mod OneDamage

@@ -1,2 +1,6 @@
 pub mod ValuePages
 pub mod Stages
+pub mod AnchorForm
+pub mod Whole
+pub mod Damages
+pub mod DamageLaws

@@ -2,6 +2,8 @@
 //! of it, and what is damaged in one that a mount refuses.
 #![tactic(auto)]
 
+mod damages;
 mod values;
 
+pub use damages::{damage_is_one, sound_is_without_damage};
 pub use values::value_pages_are_spelled;

@@ -1,0 +1,12 @@
+// Laws on what a mount refuses. The functions do nothing: their contracts are the laws.
+ghost use Rattle.kssd_image.specs.DamageLaws.{DamageIsOne, SoundIsWithoutDamage};
+
+/// At most one damage applies to an image.
+pub fn damage_is_one()
+    ensures { DamageIsOne }
+{}
+
+/// None applies to a sound image, and an image that is clear of each is sound.
+pub fn sound_is_without_damage()
+    ensures { SoundIsWithoutDamage }
+{}
