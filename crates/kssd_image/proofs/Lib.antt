@@ -1,3 +1,4 @@
 pub mod ValuePages
 pub mod LogDamage
 pub mod OneDamage
+pub mod Blank

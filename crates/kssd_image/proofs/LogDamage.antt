@@ -33,7 +33,7 @@ path_is_short image page number (x ∷ xs) end next path = by (eqb x.flags 2) re
         let step : (page + 1) % 32 ≡ page % 32 + 1 = omega arith in
         omega (arith, ap (λ n. n % 32) next)
 
-turns_within : (turns : ℕ) (xs : List LogPage) → WithinBlocks turns xs → turns ≤ 16 → turns + turn_count xs ≤ 16
+pub turns_within : (turns : ℕ) (xs : List LogPage) → WithinBlocks turns xs → turns ≤ 16 → turns + turn_count xs ≤ 16
 turns_within turns [] h le = omega arith
 turns_within turns (x ∷ xs) h le = by (eqb x.flags 2) (turns_within (turns + cond (eqb x.flags 2) 1 0) xs h.1)
   where

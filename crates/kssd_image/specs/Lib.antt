@@ -4,3 +4,4 @@ pub mod AnchorForm
 pub mod Whole
 pub mod Damages
 pub mod DamageLaws
+pub mod Worked

@@ -4,6 +4,8 @@
 
 mod damages;
 mod values;
+mod worked;
 
 pub use damages::{damage_is_one, sound_is_without_damage};
 pub use values::value_pages_are_spelled;
+pub use worked::{cut_anchor_is_none, cut_page_ends_the_log, formatted_is_empty};
