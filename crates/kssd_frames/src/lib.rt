@@ -1,0 +1,7 @@
+//! What operations on the flash leave of the objects that an image holds. The functions do nothing:
+//! their contracts are the laws.
+#![tactic(auto)]
+
+mod merging;
+
+pub use merging::{lists_are_their_lookups, marks_are_nothing, merging_is_associative};
