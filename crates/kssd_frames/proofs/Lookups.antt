@@ -150,10 +150,10 @@ marks_below entries older rising =
     let all = is_rising-merged entries older rising in
     let fewer = is_rising-merged entries (without_marks older) few in
     same_lists _ _ (rising_unmarked (merged entries (without_marks older)) fewer) (rising_unmarked (merged entries older) all) (λ key.
-      find_unmarked (merged entries (without_marks older)) key fewer
-      ∙ ap unmarked (found_over entries (without_marks older) key ∙ ap (first_of (find_entry (merged entries []) key)) (find_unmarked older key rising))
-      ∙ by (find_entry (merged entries []) key) (find_entry older key)
-      ∙ sym (find_unmarked (merged entries older) key all ∙ ap unmarked (found_over entries older key)))
+    find_unmarked (merged entries (without_marks older)) key fewer
+    ∙ ap unmarked (found_over entries (without_marks older) key ∙ ap (first_of (find_entry (merged entries []) key)) (find_unmarked older key rising))
+    ∙ by (find_entry (merged entries []) key) (find_entry older key)
+    ∙ sym (find_unmarked (merged entries older) key all ∙ ap unmarked (found_over entries older key)))
   where
     twice : (o : Option Entry) → unmarked (unmarked o) ≡ unmarked o
     twice None = refl

@@ -3,5 +3,7 @@
 #![tactic(auto)]
 
 mod merging;
+mod shown;
 
 pub use merging::{lists_are_their_lookups, marks_are_nothing, merging_is_associative};
+pub use shown::{entries_fit, objects_are_shown, pages_are_named_once, stages_rise};
