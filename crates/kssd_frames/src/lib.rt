@@ -3,7 +3,12 @@
 #![tactic(auto)]
 
 mod merging;
+mod same;
 mod shown;
 
 pub use merging::{lists_are_their_lookups, marks_are_nothing, merging_is_associative};
+pub use same::{
+    cut_pages_count_for_nothing, images_depend_on_named_pages, index_depends_on_its_pages,
+    values_depend_on_their_pages,
+};
 pub use shown::{entries_fit, objects_are_shown, pages_are_named_once, stages_rise};
