@@ -1,3 +1,6 @@
 pub mod Lookups
 pub mod ShownLaws
 pub mod SameImages
+pub mod Places
+pub mod SparePages
+pub mod Groups

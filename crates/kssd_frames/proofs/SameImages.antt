@@ -5,6 +5,7 @@ use Rattle.std.specs.List.{All, list_all, list_any}
 use Rattle.std.specs.FinMap as objects
 use Rattle.std.proofs.lemmas.List.Elements.{All-cons, All-head, All-tail}
 use Rattle.kv_nand.specs.Flash.{Image, PageState, Erased, Whole, Cut}
+use Rattle.kssd_layout.specs.Numbers.{max_keys_in, max_pages_in}
 use Rattle.kssd_entry.specs.declared.entry.Entry.{Entry}
 use Rattle.kssd_entry.specs.declared.entry.Entry.TheVariants.{Put, At, Gone}
 use Rattle.kssd_model.specs.declared.runs.RunInfo.{RunInfo}
@@ -93,7 +94,7 @@ log_whole_alike old new page number same low high whole =
 
 -- ---- runs
 
-abbrev IsSameRun : Image → Image → RunInfo → Type 0
+abbrev pub IsSameRun : Image → Image → RunInfo → Type 0
 IsSameRun old new run = (i : ℕ) → i < run.pages → IsSameAt old new (run_page run.blocks i)
 
 page_alike : (old new : Image) (run : RunInfo) (i : ℕ) → IsSameRun old new run → i < run.pages → page_of_run new run.number run.blocks i ≡ page_of_run old run.number run.blocks i
@@ -142,6 +143,24 @@ all_good old new runs same good = λ k d lt. good_alike old new _ (same k d lt) 
 
 -- ---- the index
 
+-- an index whose runs are the same, with a whole log and room for what it shows
+pub index_from : (blocks : ℕ) (old new : Image) (anchor : Anchor) → IsIndexOf blocks old anchor → All (IsSameRun old new) anchor.runs → IsLogWhole new (log_of new anchor)
+    → length (shown_by new anchor) ≤ max_keys_in blocks → length (pages_named (shown_by new anchor)) ≤ max_pages_in blocks → IsIndexOf blocks new anchor
+index_from blocks old new anchor index same log keys pages =
+    let count = λ (least : ℕ). ap (λ (es : List Entry). length (without_marks es)) (runs_alike old new (filter (λ run. leb least run.level) anchor.runs) (all_filter (IsSameRun old new) (λ run. leb least run.level) anchor.runs same)) in
+    record {
+      form = index.form;
+      runs = all_good old new anchor.runs same index.runs;
+      log = log;
+      room = record {
+        keys = keys;
+        levels = omega (arith, count 0, index.room.levels);
+        upper = omega (arith, count 1, index.room.upper);
+        base = omega (arith, count 2, index.room.base);
+        pages = pages;
+      };
+    }
+
 pub index_stays : (blocks : ℕ) (old new : Image) (anchor : Anchor) → IsIndexOf blocks old anchor → IsSameIndex old new anchor → StaysBy blocks old new anchor
 unfolding log_map merged_by shown_by
 index_stays blocks old new anchor index same =
@@ -151,23 +170,12 @@ index_stays blocks old new anchor index same =
     let runs = runs_alike old new anchor.runs same.runs in
     let all : merged_by new anchor ≡ merged_by old anchor = λ i. merged (merged (entries_of (groups_from [] (log i).pages)) []) (runs i) in
     let shown : shown_by new anchor ≡ shown_by old anchor = ap without_marks all in
-    let keys = λ (least : ℕ). ap (λ (es : List Entry). length (without_marks es)) (runs_alike old new (filter (λ run. leb least run.level) anchor.runs) (all_filter (IsSameRun old new) (λ run. leb least run.level) anchor.runs same.runs)) in
+    let whole = log_whole_alike old new (32 * anchor.log_block) anchor.log_seq same.ring low high index.log in
     record {
       log = log;
       merged = all;
       shown = shown;
-      index = record {
-        form = index.form;
-        runs = all_good old new anchor.runs same.runs index.runs;
-        log = log_whole_alike old new (32 * anchor.log_block) anchor.log_seq same.ring low high index.log;
-        room = record {
-          keys = omega (arith, ap length shown, index.room.keys);
-          levels = omega (arith, keys 0, index.room.levels);
-          upper = omega (arith, keys 1, index.room.upper);
-          base = omega (arith, keys 2, index.room.base);
-          pages = omega (arith, ap (λ es. length (pages_named es)) shown, index.room.pages);
-        };
-      };
+      index = index_from blocks old new anchor index same.runs whole (omega (arith, ap length shown, index.room.keys)) (omega (arith, ap (λ es. length (pages_named es)) shown, index.room.pages));
     }
 
 -- ---- values

@@ -250,7 +250,7 @@ named_once blocks image (e ∷ es) rising all =
 large_count : (blocks : ℕ) (image : Image) (es : List Entry) → FitAll es → list_all (has_its_value blocks image) es ≡ true → count_by (λ v. ltb 128 (length v)) (map (λ o. o.1) (map (object_in image) es)) ≡ length (pages_named es)
 large_count blocks image [] fits all = refl
 large_count blocks image (e ∷ es) fits all =
-    let v = and_parts _ _ all in
+    let v = and_parts (has_its_value blocks image e) (list_all (has_its_value blocks image) es) all in
     let rest = large_count blocks image es fits.1 v.1 in
     let first = sum_by-cons (λ (v : List ℕ). cond (ltb 128 (length v)) 1 0) (value_in image e) (map (λ (o : List ℕ × List ℕ). o.1) (map (object_in image) es)) in
     omega (arith, first, one e fits.0 v.0, length-append (page_named e) (pages_named es))

@@ -2,13 +2,19 @@
 //! their contracts are the laws.
 #![tactic(auto)]
 
+mod anchoring;
+mod logging;
 mod merging;
 mod same;
 mod shown;
+mod spare;
 
+pub use anchoring::anchors_take_over;
+pub use logging::{keys_are_counted, logs_tell_the_objects};
 pub use merging::{lists_are_their_lookups, marks_are_nothing, merging_is_associative};
 pub use same::{
     cut_pages_count_for_nothing, images_depend_on_named_pages, index_depends_on_its_pages,
     values_depend_on_their_pages,
 };
 pub use shown::{entries_fit, objects_are_shown, pages_are_named_once, stages_rise};
+pub use spare::spare_pages_count_for_nothing;

@@ -1,0 +1,8 @@
+// Laws on what operations leave on the anchors' blocks. The functions do nothing.
+ghost use Rattle.kssd_frames.specs.Anchoring.{AnchorsTakeOver};
+
+/// Whatever operations on the anchors' blocks answer, the objects stay where the newest anchor does
+/// or the one that comes shows the same.
+pub fn anchors_take_over()
+    ensures { AnchorsTakeOver }
+{}

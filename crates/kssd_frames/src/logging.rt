@@ -1,0 +1,13 @@
+// Laws on what operations leave on the ring. The functions do nothing.
+ghost use Rattle.kssd_frames.specs.Logging.{LogsTellTheObjects, KeysAreCounted};
+
+/// Whatever operations on the ring answer, the objects are those before where the log has the
+/// groups that it had, and those after a group where it has that one more.
+pub fn logs_tell_the_objects()
+    ensures { LogsTellTheObjects }
+{}
+
+/// How many different keys entries have.
+pub fn keys_are_counted()
+    ensures { KeysAreCounted }
+{}
