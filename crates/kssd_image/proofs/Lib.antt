@@ -2,3 +2,4 @@ pub mod ValuePages
 pub mod LogDamage
 pub mod OneDamage
 pub mod Blank
+pub mod Props
