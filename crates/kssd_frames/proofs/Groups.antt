@@ -20,7 +20,7 @@ use Rattle.kssd_model.specs.Rising as rising_words
 use Rattle.kssd_model.specs.Rising.{key_cmp, is_rising, find_entry, put_entry, merged, first_of}
 use Rattle.kssd_model.specs.Groups.{LogPage, Walk, HasLog, log_in, rest_from, turn_count, logged, key_set, WithinBlocks}
 use Rattle.kssd_model.specs.GroupsLaws.{HasBytes}
-use Rattle.kssd_model.proofs.RisingEntries.{is_rising-merged, find-merged}
+use Rattle.kssd_model.proofs.RisingEntries.{is_rising-merged}
 use Rattle.kssd_model.proofs.GroupsDamage.{keys_grow}
 use Rattle.kssd_model.proofs.GroupsWalks.{log_in_is, groups_in_log, log_from_walk}
 use Rattle.kssd_image.specs.Stages.{anchor_of, the_anchor, entries_of, log_map, runs_map, without_marks, merged_by, shown_by, shown_in, object_in, objects_in}
@@ -28,9 +28,10 @@ use Rattle.kssd_image.specs.AnchorForm.{anchor_age}
 use Rattle.kssd_image.specs.Whole.{log_of, IsLogWhole, pages_named, IsIndexOf, AreValuesWhole, IsWhole, age_by, age_of, age_in}
 use Rattle.kssd_frames.specs.Same.{IsSameAt, Stays}
 use Rattle.kssd_frames.specs.Logging.{groups_by, HasLogNow, aged, shown_after, Appends}
-use Rattle.kssd_frames.proofs.Lookups.{same_key, same_lists, found_over, merge_more, marks_below}
+use Rattle.kssd_frames.proofs.Lookups.{same_key, merge_three, merge_over, merge_more, marks_below}
 use Rattle.kssd_frames.proofs.ShownLaws.{runs_rise, log_rises, merged_rises, all_logged}
 use Rattle.kssd_frames.proofs.SameImages.{IsSameRun, newest_in_alike, runs_alike, index_from, objects_alike, objects_follow, values_stay, whole_from}
+use Rattle.kssd_frames.proofs.Changes.{after_is}
 use Rattle.kssd_frames.proofs.SparePages.{runs_outside, values_outside}
 
 -- ---- keys
@@ -82,19 +83,22 @@ pub log_stands : (blocks : ℕ) (image : Image) (anchor : Anchor) → HasBytes i
     → HasLog image (32 * anchor.log_block) anchor.log_seq (groups_by image anchor) (rest_from [] (log_of image anchor).pages) (turn_count (log_of image anchor).pages) (log_of image anchor).end (log_of image anchor).next
 log_stands blocks image anchor has index = log_from_walk image (32 * anchor.log_block) anchor.log_seq (log_of image anchor).end (log_of image anchor).next (rest_from [] (log_of image anchor).pages) has refl refl index.log.ends refl
 
--- newer entries over the log over the runs
-over_both : (entries log runs : List Entry) → is_rising log ≡ true → is_rising runs ≡ true → merged (merged entries log) runs ≡ merged entries (merged log runs)
-over_both entries log runs rl rr =
-    let first = is_rising-merged entries log rl in
-    same_lists _ _ (is_rising-merged (merged entries log) runs rr) (is_rising-merged entries (merged log runs) (is_rising-merged log runs rr)) (λ key.
-    find-merged (merged entries log) runs key first
-    ∙ ap (λ o. first_of o (find_entry runs key)) (found_over entries log key)
-    ∙ three (find_entry (merged entries []) key) (find_entry log key) (find_entry runs key)
-    ∙ sym (found_over entries (merged log runs) key ∙ ap (first_of (find_entry (merged entries []) key)) (find-merged log runs key rl)))
-  where
-    three : (a b c : Option Entry) → first_of (first_of a b) c ≡ first_of a (first_of b c)
-    three None b c = refl
-    three (Some a) b c = refl
+-- the entries of a log, key by key
+pub log_map_is : (image : Image) (page number : ℕ) (groups : List (List Entry)) (rest : List Entry) (turns end next : ℕ) → HasLog image page number groups rest turns end next → next < 2 ^ 64 → log_map image page number ≡ merged (entries_of groups) []
+unfolding log_map
+log_map_is image page number groups rest turns end next log fits = ap (λ (gs : List (List Entry)). merged (entries_of gs) []) (groups_in_log image page number groups rest turns end next log fits)
+
+-- later groups over earlier ones
+pub groups_over : (early late : List (List Entry)) → merged (entries_of (early ++ late)) [] ≡ merged (merged (entries_of late) []) (merged (entries_of early) [])
+groups_over early late =
+    ap (λ (es : List Entry). merged es []) (flat_map-append (λ (g : List Entry). g) early late)
+    ∙ merge_more (entries_of early) (entries_of late) []
+    ∙ sym (merge_over (entries_of late) (merged (entries_of early) []) (is_rising-merged (entries_of early) [] refl))
+
+-- a log that a mount takes has few enough keys, those of a group that isn't whole counted
+pub keys_of_whole : (blocks : ℕ) (image : Image) (anchor : Anchor) → IsIndexOf blocks image anchor → length (key_set [] (entries_of (groups_by image anchor) ++ rest_from [] (log_of image anchor).pages)) ≤ 2048
+keys_of_whole blocks image anchor index =
+    omega (arith, index.log.allowed.keys, ap (λ (es : List Entry). length (key_set [] es)) (all_logged [] (log_of image anchor).pages))
 
 -- an image with an anchor has the age by it
 age_with : (image : Image) (o : Option Found) → is_some o ≡ true → age_of image o ≡ age_by image (anchor_of o)
@@ -173,7 +177,7 @@ one_more_group blocks old new entries rest next whole h =
     let log : merged (entries_of (groups_by old a ++ entries ∷ [])) [] ≡ merged entries (log_map old (32 * a.log_block) a.log_seq) =
     ap (λ (es : List Entry). merged es []) (entries_of_more (groups_by old a) entries) ∙ merge_more (entries_of (groups_by old a)) entries [] in
     let all : merged_by new a ≡ merged entries (merged_by old a) =
-    n.merged_is ∙ ap (λ (es : List Entry). merged es (runs_map old a.runs)) log ∙ over_both entries (log_map old (32 * a.log_block) a.log_seq) (runs_map old a.runs) (log_rises old (32 * a.log_block) a.log_seq) (runs_rise old a.runs) in
+    n.merged_is ∙ ap (λ (es : List Entry). merged es (runs_map old a.runs)) log ∙ merge_three entries (log_map old (32 * a.log_block) a.log_seq) (runs_map old a.runs) (log_rises old (32 * a.log_block) a.log_seq) (runs_rise old a.runs) in
     let by_anchor : shown_by new a ≡ shown_after old entries = ap without_marks all ∙ sym (marks_below entries (merged_by old a) (merged_rises old a)) in
     let shown : shown_in new ≡ shown_after old entries = ap (shown_by new) n.anchor ∙ by_anchor in
     record {
@@ -185,7 +189,7 @@ one_more_group blocks old new entries rest next whole h =
           let values = values_outside blocks old new (shown_after old entries) room.values.pages n.behind in
           let index = index_from blocks old new a whole.index n.runs n.whole (omega (arith, ap length by_anchor, room.keys)) (omega (arith, ap (λ es. length (pages_named es)) by_anchor, room.pages)) in
           record {
-            objects = ap objects.from_sorted (ap (map (object_in new)) shown ∙ objects_alike old new (shown_after old entries) values);
+            objects = ap objects.from_sorted (ap (map (object_in new)) shown ∙ objects_alike old new (shown_after old entries) values) ∙ after_is old entries;
             whole = record {
               found = ap is_some n.newest ∙ whole.found;
               index = subst (IsIndexOf blocks new) (sym n.anchor) index;

@@ -91,12 +91,13 @@ pub merge_over : (entries older : List Entry) → is_rising older ≡ true → m
 merge_over entries older rising = same_lists _ _ (is_rising-merged (merged entries []) older rising) (is_rising-merged entries older rising) (λ key.
     find-merged (merged entries []) older key (is_rising-merged entries [] refl) ∙ sym (found_over entries older key))
 
-pub merge_three : (a b c : List Entry) → is_rising a ≡ true → is_rising b ≡ true → is_rising c ≡ true → merged (merged a b) c ≡ merged a (merged b c)
-merge_three a b c ra rb rc = same_lists _ _ (is_rising-merged (merged a b) c rc) (is_rising-merged a (merged b c) (is_rising-merged b c rc)) (λ key.
+-- newer entries over older ones over the oldest, whatever the newer ones are
+pub merge_three : (a b c : List Entry) → is_rising b ≡ true → is_rising c ≡ true → merged (merged a b) c ≡ merged a (merged b c)
+merge_three a b c rb rc = same_lists _ _ (is_rising-merged (merged a b) c rc) (is_rising-merged a (merged b c) (is_rising-merged b c rc)) (λ key.
     find-merged (merged a b) c key (is_rising-merged a b rb)
-    ∙ ap (λ o. first_of o (find_entry c key)) (find-merged a b key ra)
-    ∙ first_of_three (find_entry a key) (find_entry b key) (find_entry c key)
-    ∙ sym (find-merged a (merged b c) key ra ∙ ap (first_of (find_entry a key)) (find-merged b c key rb)))
+    ∙ ap (λ o. first_of o (find_entry c key)) (found_over a b key)
+    ∙ first_of_three (find_entry (merged a []) key) (find_entry b key) (find_entry c key)
+    ∙ sym (found_over a (merged b c) key ∙ ap (first_of (find_entry (merged a []) key)) (find-merged b c key rb)))
 
 pub merge_more : (early late older : List Entry) → merged (early ++ late) older ≡ merged late (merged early older)
 merge_more [] late older = refl

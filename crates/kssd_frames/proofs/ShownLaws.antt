@@ -8,6 +8,7 @@ use Rattle.std.specs.FinMap as objects
 use Rattle.std.specs.FinMap.Entries.{below_all, is_sorted}
 use Rattle.std.proofs.lemmas.Bool.{and_parts, lt-ltb, le-ltb, ne_eqb}
 use Rattle.std.proofs.lemmas.Cmp.{nat_list_cmp_total, tied_itself}
+use Rattle.std.proofs.lemmas.List.{length-map}
 use Rattle.std.proofs.lemmas.List.Sums.{sum_by-cons}
 use Rattle.std.specs.declared.cmp.Ordering.{Ordering}
 use Rattle.std.specs.declared.cmp.Ordering.TheVariants.{Less, Equal, Greater}
@@ -34,13 +35,18 @@ use Rattle.kssd_image.specs.ValuePages.{first_bytes, has_value}
 use Rattle.kssd_image.specs.Stages.{runs_map, entries_of, log_map, without_marks, merged_by, shown_by, shown_in, value_in, object_in, objects_in, the_anchor}
 use Rattle.kssd_image.specs.Whole.{page_named, pages_named, is_value_block, has_its_value, IsWhole}
 use Rattle.kssd_image.proofs.ValuePages.{holds_from, one_key}
-use Rattle.kssd_frames.proofs.Lookups.{rising_unmarked}
+use Rattle.kssd_frames.proofs.Lookups.{merge_three, rising_unmarked}
 
 -- ---- rising
 
 pub runs_rise : (image : Image) (runs : List RunInfo) → is_rising (runs_map image runs) ≡ true
 runs_rise image [] = refl
 runs_rise image (run ∷ runs) = is_rising-merged (run_entries image run) (runs_map image runs) (runs_rise image runs)
+
+-- earlier runs over later ones
+pub runs_over : (image : Image) (xs ys : List RunInfo) → runs_map image (xs ++ ys) ≡ merged (runs_map image xs) (runs_map image ys)
+runs_over image [] ys = refl
+runs_over image (run ∷ xs) ys = ap (merged (run_entries image run)) (runs_over image xs ys) ∙ sym (merge_three (run_entries image run) (runs_map image xs) (runs_map image ys) (runs_rise image xs) (runs_rise image ys))
 
 pub log_rises : (image : Image) (page number : ℕ) → is_rising (log_map image page number) ≡ true
 unfolding log_map
@@ -60,20 +66,24 @@ shown_in_rises image = shown_rises image (the_anchor image)
 
 -- ---- objects
 
-below_is : (image : Image) (key : List ℕ) (es : List Entry) → is_above_all key es ≡ below_all bytes_cmp key (map (object_in image) es)
-below_is image key [] = refl
-below_is image key (e ∷ es) = ap (λ b. is_lt (key_cmp key (key_of e)) && b) (below_is image key es)
+-- an entry's key, with something made of the entry
+abbrev pub keyed : {X : Type 0} → (Entry → X) → Entry → List ℕ × X
+keyed f e = (key_of e, f e)
 
-sorted_is : (image : Image) (es : List Entry) → is_rising es ≡ is_sorted bytes_cmp (map (object_in image) es)
-sorted_is image [] = refl
-sorted_is image (e ∷ es) = λ i. below_is image (key_of e) es i && sorted_is image es i
+below_is : {X : Type 0} (f : Entry → X) (key : List ℕ) (es : List Entry) → is_above_all key es ≡ below_all bytes_cmp key (map (keyed f) es)
+below_is f key [] = refl
+below_is f key (e ∷ es) = ap (λ b. is_lt (key_cmp key (key_of e)) && b) (below_is f key es)
 
-sorted : (image : Image) (es : List Entry) → is_rising es ≡ true → T (is_sorted bytes_cmp (map (object_in image) es))
-sorted image es h = subst T (sym (sym (sorted_is image es) ∙ h)) tt
+sorted_is : {X : Type 0} (f : Entry → X) (es : List Entry) → is_rising es ≡ is_sorted bytes_cmp (map (keyed f) es)
+sorted_is f [] = refl
+sorted_is f (e ∷ es) = λ i. below_is f (key_of e) es i && sorted_is f es i
 
-find_is : (image : Image) (es : List Entry) (key : List ℕ) → objects.find bytes_cmp key (map (object_in image) es) ≡ option_map (value_in image) (find_entry es key)
-find_is image [] key = refl
-find_is image (e ∷ es) key = ap (λ b. cond b (Some (value_in image e)) (objects.find bytes_cmp key (map (object_in image) es))) same ∙ by (has_key key e) (find_is image es key)
+pub sorted : {X : Type 0} (f : Entry → X) (es : List Entry) → is_rising es ≡ true → T (is_sorted bytes_cmp (map (keyed f) es))
+sorted f es h = subst T (sym (sym (sorted_is f es) ∙ h)) tt
+
+pub find_is : {X : Type 0} (f : Entry → X) (es : List Entry) (key : List ℕ) → objects.find bytes_cmp key (map (keyed f) es) ≡ option_map f (find_entry es key)
+find_is f [] key = refl
+find_is {X} f (e ∷ es) key = ap (λ b. cond b (Some (f e)) (objects.find bytes_cmp key (map (keyed f) es))) same ∙ by (has_key key e) (find_is f es key)
   where
     same : eq_by_cmp bytes_cmp key (key_of e) ≡ has_key key e
     same = ties (key_cmp (key_of e) key) refl ∙ sym (has_key_is key e)
@@ -86,24 +96,20 @@ find_is image (e ∷ es) key = ap (λ b. cond b (Some (value_in image e)) (objec
             back Equal = refl
             back Greater = refl
 
-    by : (b : Bool) → objects.find bytes_cmp key (map (object_in image) es) ≡ option_map (value_in image) (find_entry es key)
-        → cond b (Some (value_in image e)) (objects.find bytes_cmp key (map (object_in image) es)) ≡ option_map (value_in image) (cond b (Some e) (find_entry es key))
+    by : (b : Bool) → objects.find bytes_cmp key (map (keyed f) es) ≡ option_map f (find_entry es key)
+        → cond b (Some (f e)) (objects.find bytes_cmp key (map (keyed f) es)) ≡ option_map f (cond b (Some e) (find_entry es key))
     by true rest = refl
     by false rest = rest
 
 pub objects_entries : (image : Image) → objects.entries (objects_in image) ≡ map (object_in image) (shown_in image)
 unfolding objects_in
-objects_entries image = objects.entries-from_sorted bytes_cmp (map (object_in image) (shown_in image)) (sorted image (shown_in image) (shown_in_rises image))
+objects_entries image = objects.entries-from_sorted bytes_cmp (map (object_in image) (shown_in image)) (sorted (value_in image) (shown_in image) (shown_in_rises image))
 
 pub objects_get : (image : Image) (key : List ℕ) → objects.get (objects_in image) key ≡ option_map (value_in image) (find_entry (shown_in image) key)
-objects_get image key = objects.get-entries (objects_in image) key ∙ ap (objects.find bytes_cmp key) (objects_entries image) ∙ find_is image (shown_in image) key
+objects_get image key = objects.get-entries (objects_in image) key ∙ ap (objects.find bytes_cmp key) (objects_entries image) ∙ find_is (value_in image) (shown_in image) key
 
 pub objects_len : (image : Image) → objects.len (objects_in image) ≡ length (shown_in image)
-objects_len image = objects.len-entries (objects_in image) ∙ ap length (objects_entries image) ∙ by (shown_in image)
-  where
-    by : (es : List Entry) → length (map (object_in image) es) ≡ length es
-    by [] = refl
-    by (e ∷ es) = ap suc (by es)
+objects_len image = objects.len-entries (objects_in image) ∙ ap length (objects_entries image) ∙ length-map (shown_in image) (object_in image)
 
 -- ---- sizes
 
@@ -114,18 +120,19 @@ fit_append : (xs ys : List Entry) → FitAll xs → FitAll ys → FitAll (xs ++ 
 fit_append [] ys h g = g
 fit_append (x ∷ xs) ys h g = (h.0, fit_append xs ys h.1 g)
 
-fit_put : (xs : List Entry) (e : Entry) → FitAll xs → FitsEntry e → FitAll (put_entry xs e)
-fit_put [] e h f = (f, tt)
-fit_put (x ∷ xs) e h f = by (key_cmp (key_of e) (key_of x)) (fit_put xs e h.1 f)
+-- merging keeps what holds of each entry
+all_put : (P : Entry → Type 0) (xs : List Entry) (e : Entry) → AllByRecursion P xs → P e → AllByRecursion P (put_entry xs e)
+all_put P [] e h p = (p, tt)
+all_put P (x ∷ xs) e h p = by (key_cmp (key_of e) (key_of x)) (all_put P xs e h.1 p)
   where
-    by : (o : Ordering) → FitAll (put_entry xs e) → FitAll (rising_words.by_order o (e ∷ x ∷ xs) (e ∷ xs) (x ∷ put_entry xs e))
-    by Less rest = (f, h)
-    by Equal rest = (f, h.1)
+    by : (o : Ordering) → AllByRecursion P (put_entry xs e) → AllByRecursion P (rising_words.by_order o (e ∷ x ∷ xs) (e ∷ xs) (x ∷ put_entry xs e))
+    by Less rest = (p, h)
+    by Equal rest = (p, h.1)
     by Greater rest = (h.0, rest)
 
-pub fit_merged : (newer older : List Entry) → FitAll newer → FitAll older → FitAll (merged newer older)
-fit_merged [] older h g = g
-fit_merged (e ∷ newer) older h g = fit_merged newer (put_entry older e) h.1 (fit_put older e g h.0)
+pub all_merged : (P : Entry → Type 0) (newer older : List Entry) → AllByRecursion P newer → AllByRecursion P older → AllByRecursion P (merged newer older)
+all_merged P [] older h g = g
+all_merged P (e ∷ newer) older h g = all_merged P newer (put_entry older e) h.1 (all_put P older e g h.0)
 
 pub fit_unmarked : (xs : List Entry) → FitAll xs → FitAll (without_marks xs)
 fit_unmarked [] h = tt
@@ -160,7 +167,7 @@ run_fits image run (suc n) has = fit_append (joined (page_entries image run.numb
 
 pub runs_fit : (image : Image) (runs : List RunInfo) → HasBytes image → FitAll (runs_map image runs)
 runs_fit image [] has = tt
-runs_fit image (run ∷ runs) has = fit_merged (run_entries image run) (runs_map image runs) (run_fits image run run.pages has) (runs_fit image runs has)
+runs_fit image (run ∷ runs) has = all_merged FitsEntry (run_entries image run) (runs_map image runs) (run_fits image run run.pages has) (runs_fit image runs has)
 
 -- the pages of a log
 walk_fits : (most : ℕ) (image : Image) (page number : ℕ) → HasBytes image → FitAll (logged (walk most image page number).pages)
@@ -195,11 +202,11 @@ pub log_fits : (image : Image) (page number : ℕ) → HasBytes image → FitAll
 unfolding log_map log_in
 log_fits image page number has =
     let pages = (log_in image page number).pages in
-    fit_merged (entries_of (groups_from [] pages)) [] (fit_front (entries_of (groups_from [] pages)) (rest_from [] pages) (subst FitAll (sym (all_logged [] pages)) (walk_fits (2 ^ 64) image page number has))) tt
+    all_merged FitsEntry (entries_of (groups_from [] pages)) [] (fit_front (entries_of (groups_from [] pages)) (rest_from [] pages) (subst FitAll (sym (all_logged [] pages)) (walk_fits (2 ^ 64) image page number has))) tt
 
 pub merged_fits : (image : Image) (anchor : Anchor) → HasBytes image → FitAll (merged_by image anchor)
 unfolding merged_by
-merged_fits image anchor has = fit_merged (log_map image (32 * anchor.log_block) anchor.log_seq) (runs_map image anchor.runs) (log_fits image (32 * anchor.log_block) anchor.log_seq has) (runs_fit image anchor.runs has)
+merged_fits image anchor has = all_merged FitsEntry (log_map image (32 * anchor.log_block) anchor.log_seq) (runs_map image anchor.runs) (log_fits image (32 * anchor.log_block) anchor.log_seq has) (runs_fit image anchor.runs has)
 
 pub shown_fits : (image : Image) (anchor : Anchor) → HasBytes image → FitAll (shown_by image anchor)
 unfolding shown_by

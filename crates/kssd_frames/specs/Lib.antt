@@ -4,3 +4,4 @@ pub mod Same
 pub mod Spare
 pub mod Anchoring
 pub mod Logging
+pub mod Changing

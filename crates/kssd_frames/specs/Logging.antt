@@ -1,7 +1,7 @@
 -- What operations on the ring leave.
-use Rattle.std.specs.Prelude.{◌≡◌, ◌⊎◌, ◌<◌, ◌≤◌, ◌-◌, ◌*◌, ◌^◌, ℕ, max, List, [], ◌∷◌, ◌++◌, map, length}
-use Rattle.std.specs.FinMap as objects
+use Rattle.std.specs.Prelude.{◌≡◌, ◌⊎◌, ◌<◌, ◌≤◌, ◌-◌, ◌*◌, ◌^◌, ℕ, max, List, [], ◌∷◌, ◌++◌, length}
 use Rattle.kv_nand.specs.Flash.{Image}
+use Rattle.kv_device.specs.Objects.{seen_through}
 use Rattle.kssd_layout.specs.Numbers.{max_keys_in, max_pages_in}
 use Rattle.kssd_entry.specs.declared.entry.Entry.{Entry}
 use Rattle.kssd_model.specs.declared.anchor.Anchor.{Anchor}
@@ -9,7 +9,7 @@ use Rattle.kssd_model.specs.Anchors.{newest_in}
 use Rattle.kssd_model.specs.Groups.{HasLog, groups_in, rest_from, turn_count, key_set}
 use Rattle.kssd_model.specs.GroupsLaws.{HasBytes}
 use Rattle.kssd_model.specs.Rising.{merged}
-use Rattle.kssd_image.specs.Stages.{the_anchor, entries_of, without_marks, merged_by, shown_in, object_in, objects_in}
+use Rattle.kssd_image.specs.Stages.{the_anchor, entries_of, log_map, without_marks, merged_by, shown_in, objects_in, changes_of}
 use Rattle.kssd_image.specs.AnchorForm.{anchor_age}
 use Rattle.kssd_image.specs.Whole.{log_of, pages_named, IsIndexOf, AreValuesWhole, IsWhole, age_in}
 use Rattle.kssd_frames.specs.Same.{IsSameAt, Stays}
@@ -42,9 +42,9 @@ pub record IsRoomAfter (blocks : ℕ) (image : Image) (entries : List Entry) : T
   pub pages : length (pages_named (shown_after image entries)) ≤ max_pages_in blocks
   pub values : AreValuesWhole blocks image (shown_after image entries)
 
--- the objects are those of the entries after the group, and a mount takes the image
+-- the objects are those before with the changes that the entries make, and a mount takes the image
 pub record IsAfter (blocks : ℕ) (old new : Image) (entries : List Entry) : Type 0 where
-  pub objects : objects_in new ≡ objects.from_sorted (map (object_in old) (shown_after old entries))
+  pub objects : objects_in new ≡ seen_through (changes_of old entries) (objects_in old)
   pub whole : IsWhole blocks new
 
 -- a group of these entries is in the log
@@ -61,6 +61,12 @@ pub record LogsTellTheObjects : Type 0 where
   pub more : (blocks : ℕ) (old new : Image) (entries rest : List Entry) (next : ℕ) → IsWhole blocks old → HasLogNow old new (groups_by old (the_anchor old) ++ entries ∷ []) rest next → Appends blocks old new entries (aged old next)
   pub stands : (blocks : ℕ) (image : Image) (anchor : Anchor) → HasBytes image → IsIndexOf blocks image anchor
       → HasLog image (32 * anchor.log_block) anchor.log_seq (groups_by image anchor) (rest_from [] (log_of image anchor).pages) (turn_count (log_of image anchor).pages) (log_of image anchor).end (log_of image anchor).next
+  pub keys : (blocks : ℕ) (image : Image) (anchor : Anchor) → IsIndexOf blocks image anchor → length (key_set [] (entries_of (groups_by image anchor) ++ rest_from [] (log_of image anchor).pages)) ≤ 2048
+
+-- the map of any log is its groups', and that of later groups stands over that of earlier ones
+pub record LogsAreMaps : Type 0 where
+  pub map_is : (image : Image) (page number : ℕ) (groups : List (List Entry)) (rest : List Entry) (turns end next : ℕ) → HasLog image page number groups rest turns end next → next < 2 ^ 64 → log_map image page number ≡ merged (entries_of groups) []
+  pub over : (early late : List (List Entry)) → merged (entries_of (early ++ late)) [] ≡ merged (merged (entries_of late) []) (merged (entries_of early) [])
 
 -- as many different keys as entries when they are put in order over nothing, and no more in the first of them than in all
 pub record KeysAreCounted : Type 0 where

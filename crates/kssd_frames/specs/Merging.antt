@@ -10,7 +10,7 @@ ListsAreTheirLookups = (xs ys : List Entry) → is_rising xs ≡ true → is_ris
 
 -- merging is associative; entries put in order over nothing, and the result over older ones, are the entries put over the older ones; and so are first ones and then later ones
 pub record MergingIsAssociative : Type 0 where
-  pub three : (a b c : List Entry) → is_rising a ≡ true → is_rising b ≡ true → is_rising c ≡ true → merged (merged a b) c ≡ merged a (merged b c)
+  pub three : (a b c : List Entry) → is_rising b ≡ true → is_rising c ≡ true → merged (merged a b) c ≡ merged a (merged b c)
   pub over : (entries older : List Entry) → is_rising older ≡ true → merged (merged entries []) older ≡ merged entries older
   pub more : (early late older : List Entry) → merged (early ++ late) older ≡ merged late (merged early older)
   pub alone : (entries : List Entry) → is_rising entries ≡ true → merged entries [] ≡ entries

@@ -3,6 +3,7 @@
 #![tactic(auto)]
 
 mod anchoring;
+mod changing;
 mod logging;
 mod merging;
 mod same;
@@ -10,7 +11,8 @@ mod shown;
 mod spare;
 
 pub use anchoring::anchors_take_over;
-pub use logging::{keys_are_counted, logs_tell_the_objects};
+pub use changing::entries_are_changes;
+pub use logging::{keys_are_counted, logs_are_maps, logs_tell_the_objects};
 pub use merging::{lists_are_their_lookups, marks_are_nothing, merging_is_associative};
 pub use same::{
     cut_pages_count_for_nothing, images_depend_on_named_pages, index_depends_on_its_pages,

@@ -1,9 +1,9 @@
 -- From an image to the objects that it holds, by stages, each a function of those before.
-use Rattle.std.specs.Prelude.{ℕ, ◌*◌, List, [], ◌∷◌, not, map, filter, Option, Some, None}
+use Rattle.std.specs.Prelude.{ℕ, ◌*◌, List, [], ◌∷◌, not, map, filter, Option, Some, None, if◌then◌else◌}
 use Rattle.std.specs.List.{flat_map}
 use Rattle.std.specs.FinMap as objects
 use Rattle.kv_nand.specs.Flash.{Image}
-use Rattle.kv_device.specs.Objects.{Objects}
+use Rattle.kv_device.specs.Objects.{Objects, Changes}
 use Rattle.kssd_entry.specs.declared.entry.Entry.{Entry}
 use Rattle.kssd_entry.specs.declared.entry.Entry.TheVariants.{Put, At, Gone}
 use Rattle.kssd_entry.specs.Spelling.{key_of}
@@ -71,3 +71,11 @@ object_in image entry = (key_of entry, value_in image entry)
 -- the objects that an image holds: each visible entry's key with its value
 unfoldable pub objects_in : Image → Objects
 objects_in image = objects.from_sorted (map (object_in image) (shown_in image))
+
+-- what an entry makes of its key's value: another one, or none
+abbrev pub change_in : Image → Entry → List ℕ × Option (List ℕ)
+change_in image entry = (key_of entry, if is_gone entry then None else Some (value_in image entry))
+
+-- the changes that entries make, one after the other: for each key the last
+unfoldable pub changes_of : Image → List Entry → Changes
+changes_of image entries = objects.from_sorted (map (change_in image) (merged entries []))
