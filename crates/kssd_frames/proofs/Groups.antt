@@ -26,8 +26,8 @@ use Rattle.kssd_model.proofs.GroupsWalks.{log_in_is, groups_in_log, log_from_wal
 use Rattle.kssd_image.specs.Stages.{anchor_of, the_anchor, entries_of, log_map, runs_map, without_marks, merged_by, shown_by, shown_in, object_in, objects_in}
 use Rattle.kssd_image.specs.AnchorForm.{anchor_age}
 use Rattle.kssd_image.specs.Whole.{log_of, IsLogWhole, pages_named, IsIndexOf, AreValuesWhole, IsWhole, age_by, age_of, age_in}
-use Rattle.kssd_frames.specs.Same.{IsSameAt, Stays}
-use Rattle.kssd_frames.specs.Logging.{groups_by, HasLogNow, aged, shown_after, Appends}
+use Rattle.kssd_frames.specs.Same.{as_counted, IsSameAt, Stays}
+use Rattle.kssd_frames.specs.Logging.{IsLogOf, groups_by, HasLogNow, aged, shown_after, Appends}
 use Rattle.kssd_frames.proofs.Lookups.{same_key, merge_three, merge_over, merge_more, marks_below}
 use Rattle.kssd_frames.proofs.ShownLaws.{runs_rise, log_rises, merged_rises, all_logged}
 use Rattle.kssd_frames.proofs.SameImages.{IsSameRun, newest_in_alike, runs_alike, index_from, objects_alike, objects_follow, values_stay, whole_from}
@@ -83,10 +83,19 @@ pub log_stands : (blocks : ℕ) (image : Image) (anchor : Anchor) → HasBytes i
     → HasLog image (32 * anchor.log_block) anchor.log_seq (groups_by image anchor) (rest_from [] (log_of image anchor).pages) (turn_count (log_of image anchor).pages) (log_of image anchor).end (log_of image anchor).next
 log_stands blocks image anchor has index = log_from_walk image (32 * anchor.log_block) anchor.log_seq (log_of image anchor).end (log_of image anchor).next (rest_from [] (log_of image anchor).pages) has refl refl index.log.ends refl
 
--- the entries of a log, key by key
-pub log_map_is : (image : Image) (page number : ℕ) (groups : List (List Entry)) (rest : List Entry) (turns end next : ℕ) → HasLog image page number groups rest turns end next → next < 2 ^ 64 → log_map image page number ≡ merged (entries_of groups) []
+pub log_facts : (image : Image) (page number : ℕ) (groups : List (List Entry)) (rest : List Entry) (turns end next : ℕ) → HasLog image page number groups rest turns end next → next < 2 ^ 64 → IsLogOf image page number groups rest turns end next
 unfolding log_map
-log_map_is image page number groups rest turns end next log fits = ap (λ (gs : List (List Entry)). merged (entries_of gs) []) (groups_in_log image page number groups rest turns end next log fits)
+log_facts image page number groups rest turns end next log fits =
+    let is = log_in_is image page number groups rest turns end next log fits in
+    let groups_are = groups_in_log image page number groups rest turns end next log fits in
+    record {
+      groups_are = groups_are;
+      rest_is = ap (λ (w : Walk). rest_from [] w.pages) is ∙ log.rest_is;
+      turns_are = ap (λ (w : Walk). turn_count w.pages) is ∙ log.turns_are;
+      end_is = ap (λ (w : Walk). w.end) is;
+      next_is = ap (λ (w : Walk). w.next) is;
+      map_is = ap (λ (gs : List (List Entry)). merged (entries_of gs) []) groups_are;
+    }
 
 -- later groups over earlier ones
 pub groups_over : (early late : List (List Entry)) → merged (entries_of (early ++ late)) [] ≡ merged (merged (entries_of late) []) (merged (entries_of early) [])
@@ -128,8 +137,8 @@ now : (blocks : ℕ) (old new : Image) (groups : List (List Entry)) (rest : List
 unfolding log_map merged_by age_in
 now blocks old new groups rest next whole h =
     let a = the_anchor old in
-    let newest = newest_in_alike old new (λ page lt. h.outside page (inl lt)) in
-    let behind = λ (page : ℕ) (le : 640 ≤ page). h.outside page (inr le) in
+    let newest = newest_in_alike old new (λ page lt. ap as_counted (h.outside page (inl lt))) in
+    let behind = λ (page : ℕ) (le : 640 ≤ page). ap as_counted (h.outside page (inr le)) in
     let runs = runs_outside blocks old new a whole.index.form behind in
     let is = log_in_is new (32 * a.log_block) a.log_seq groups rest h.turns h.end next h.log h.numbers in
     let groups_are = groups_in_log new (32 * a.log_block) a.log_seq groups rest h.turns h.end next h.log h.numbers in

@@ -10,8 +10,8 @@ use Rattle.kssd_model.specs.declared.anchor.Anchor as model
 use Rattle.kssd_model.specs.declared.anchor.Found.{Found}
 use Rattle.kssd_model.specs.Anchors.{newest_in}
 use Rattle.kssd_image.specs.Stages.{anchor_of, the_anchor, shown_by, shown_in}
-use Rattle.kssd_image.specs.AnchorForm.{IsAnchorForm, anchor_age, blocks_of}
-use Rattle.kssd_image.specs.Whole.{pages_named, has_its_value, IsIndexOf, AreValuesWhole, IsWhole, age_of, age_in}
+use Rattle.kssd_image.specs.AnchorForm.{IsAnchorForm, HasLowNumbers, anchor_age, blocks_of}
+use Rattle.kssd_image.specs.Whole.{pages_named, has_its_value, IsIndexOf, AreValuesWhole, IsWhole, Sound, age_of, age_in}
 use Rattle.kssd_frames.specs.Same.{as_counted, IsSameAt, IsSameIndex, AreSameValues, Stays}
 use Rattle.kssd_frames.specs.Spare.{IsSpareRunBlock, IsSpareValuePage, IsSpare, ChangesSparePages}
 use Rattle.kssd_frames.specs.Anchoring.{ChangesAnchors, IsTakenOver}
@@ -87,11 +87,11 @@ values_outside blocks old new entries whole same k d lt = same _ (behind _ (valu
 
 -- no page of the index lies in the anchors' blocks
 index_is_behind : (blocks : ℕ) (old new : Image) (anchor : model.Anchor) → IsAnchorForm blocks anchor → ChangesAnchors old new → IsSameIndex old new anchor
-index_is_behind blocks old new anchor form same = record { ring = λ page low high. same page low; runs = runs_outside blocks old new anchor form (λ page le. same page (omega arith)) }
+index_is_behind blocks old new anchor form same = record { ring = λ page low high. ap as_counted (same page low); runs = runs_outside blocks old new anchor form (λ page le. ap as_counted (same page (omega arith))) }
 
 -- and none of a value
 values_are_behind : (blocks : ℕ) (old new : Image) → AreValuesWhole blocks old (shown_in old) → ChangesAnchors old new → AreSameValues old new (shown_in old)
-values_are_behind blocks old new whole same = values_outside blocks old new (shown_in old) whole.pages (λ page le. same page (omega arith))
+values_are_behind blocks old new whole same = values_outside blocks old new (shown_in old) whole.pages (λ page le. ap as_counted (same page (omega arith)))
 
 pub old_anchor_stays : (blocks : ℕ) (old new : Image) → IsWhole blocks old → ChangesAnchors old new → newest_in new ≡ newest_in old → Stays blocks old new (age_in old)
 old_anchor_stays blocks old new whole same newest =
@@ -114,3 +114,20 @@ given_anchor blocks old new found whole same newest index shows =
       };
       age_is = ap (age_of new) newest ∙ (λ i. max (anchor_age found.anchor) ((stays.log i).next - 1));
     }
+
+-- ---- soundness
+
+pub sound_stays : (blocks : ℕ) (old new : Image) (age : ℕ) → Stays blocks old new age → Sound blocks old → Sound blocks new
+unfolding the_anchor
+sound_stays blocks old new age stays sound = record { whole = stays.keeps.whole; numbers = subst (λ o. HasLowNumbers (anchor_of o)) (sym stays.newest) sound.numbers }
+
+pub sound_given : (blocks : ℕ) (old new : Image) (anchor : model.Anchor) → IsTakenOver blocks old new anchor → HasLowNumbers anchor → Sound blocks new
+sound_given blocks old new anchor taken low = record { whole = taken.keeps.whole; numbers = subst HasLowNumbers (sym taken.anchor_is) low }
+
+pub stays_twice : (blocks : ℕ) (old between new : Image) (first last : ℕ) → Stays blocks old between first → Stays blocks between new last → Stays blocks old new last
+stays_twice blocks old between new first last h g = record {
+  newest = g.newest ∙ h.newest;
+  merged = g.merged ∙ h.merged;
+  keeps = record { shown = g.keeps.shown ∙ h.keeps.shown; objects = g.keeps.objects ∙ h.keeps.objects; whole = g.keeps.whole };
+  age_is = g.age_is;
+}

@@ -6,13 +6,13 @@ use Rattle.kssd_layout.specs.Numbers.{max_keys_in, max_pages_in}
 use Rattle.kssd_entry.specs.declared.entry.Entry.{Entry}
 use Rattle.kssd_model.specs.declared.anchor.Anchor.{Anchor}
 use Rattle.kssd_model.specs.Anchors.{newest_in}
-use Rattle.kssd_model.specs.Groups.{HasLog, groups_in, rest_from, turn_count, key_set}
+use Rattle.kssd_model.specs.Groups.{HasLog, log_in, groups_in, rest_from, turn_count, key_set}
 use Rattle.kssd_model.specs.GroupsLaws.{HasBytes}
 use Rattle.kssd_model.specs.Rising.{merged}
 use Rattle.kssd_image.specs.Stages.{the_anchor, entries_of, log_map, without_marks, merged_by, shown_in, objects_in, changes_of}
 use Rattle.kssd_image.specs.AnchorForm.{anchor_age}
-use Rattle.kssd_image.specs.Whole.{log_of, pages_named, IsIndexOf, AreValuesWhole, IsWhole, age_in}
-use Rattle.kssd_frames.specs.Same.{IsSameAt, Stays}
+use Rattle.kssd_image.specs.Whole.{log_of, IsLogWhole, pages_named, IsIndexOf, AreValuesWhole, IsWhole, age_in}
+use Rattle.kssd_frames.specs.Same.{Stays}
 
 -- the groups of an anchor's log
 abbrev pub groups_by : Image → Anchor → List (List Entry)
@@ -20,7 +20,7 @@ groups_by image anchor = groups_in image (32 * anchor.log_block) anchor.log_seq
 
 -- only pages of the ring may differ, and the newest anchor's log now has these groups, and behind them these entries of a group that isn't whole; it is within its blocks and has few enough keys
 pub record HasLogNow (old new : Image) (groups : List (List Entry)) (rest : List Entry) (next : ℕ) : Type 0 where
-  pub outside : (page : ℕ) → (page < 64) ⊎ (640 ≤ page) → IsSameAt old new page
+  pub outside : (page : ℕ) → (page < 64) ⊎ (640 ≤ page) → new page ≡ old page
   pub turns : ℕ
   pub end : ℕ
   pub log : HasLog new (32 * (the_anchor old).log_block) (the_anchor old).log_seq groups rest turns end next
@@ -63,9 +63,19 @@ pub record LogsTellTheObjects : Type 0 where
       → HasLog image (32 * anchor.log_block) anchor.log_seq (groups_by image anchor) (rest_from [] (log_of image anchor).pages) (turn_count (log_of image anchor).pages) (log_of image anchor).end (log_of image anchor).next
   pub keys : (blocks : ℕ) (image : Image) (anchor : Anchor) → IsIndexOf blocks image anchor → length (key_set [] (entries_of (groups_by image anchor) ++ rest_from [] (log_of image anchor).pages)) ≤ 2048
 
--- the map of any log is its groups', and that of later groups stands over that of earlier ones
+-- what a log has, as equations on functions of the image
+pub record IsLogOf (image : Image) (page number : ℕ) (groups : List (List Entry)) (rest : List Entry) (turns end next : ℕ) : Type 0 where
+  pub groups_are : groups_in image page number ≡ groups
+  pub rest_is : rest_from [] (log_in image page number).pages ≡ rest
+  pub turns_are : turn_count (log_in image page number).pages ≡ turns
+  pub end_is : (log_in image page number).end ≡ end
+  pub next_is : (log_in image page number).next ≡ next
+  pub map_is : log_map image page number ≡ merged (entries_of groups) []
+
+-- each log is so; a mount takes it where it has few turns and keys; and the map of later groups stands over that of earlier ones
 pub record LogsAreMaps : Type 0 where
-  pub map_is : (image : Image) (page number : ℕ) (groups : List (List Entry)) (rest : List Entry) (turns end next : ℕ) → HasLog image page number groups rest turns end next → next < 2 ^ 64 → log_map image page number ≡ merged (entries_of groups) []
+  pub is : (image : Image) (page number : ℕ) (groups : List (List Entry)) (rest : List Entry) (turns end next : ℕ) → HasLog image page number groups rest turns end next → next < 2 ^ 64 → IsLogOf image page number groups rest turns end next
+  pub whole : (image : Image) (page number : ℕ) (groups : List (List Entry)) (rest : List Entry) (turns end next : ℕ) → HasLog image page number groups rest turns end next → turns ≤ 15 → next < 2 ^ 64 → length (key_set [] (entries_of groups ++ rest)) ≤ 2048 → IsLogWhole image (log_in image page number)
   pub over : (early late : List (List Entry)) → merged (entries_of (early ++ late)) [] ≡ merged (merged (entries_of late) []) (merged (entries_of early) [])
 
 -- as many different keys as entries when they are put in order over nothing, and no more in the first of them than in all

@@ -10,7 +10,7 @@ mod same;
 mod shown;
 mod spare;
 
-pub use anchoring::anchors_take_over;
+pub use anchoring::{anchors_take_over, sound_stays};
 pub use changing::entries_are_changes;
 pub use logging::{keys_are_counted, logs_are_maps, logs_tell_the_objects};
 pub use merging::{lists_are_their_lookups, marks_are_nothing, merging_is_associative};
