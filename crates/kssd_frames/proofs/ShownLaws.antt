@@ -254,7 +254,7 @@ named_once blocks image (e ∷ es) rising all =
     by (At k q n) above h all rest = (named_apart blocks image k q n es (and_parts (is_value_block blocks (q / 32)) (has_value k n (image q)) h).1 above all, rest)
 
 -- how many of the values need a page
-large_count : (blocks : ℕ) (image : Image) (es : List Entry) → FitAll es → list_all (has_its_value blocks image) es ≡ true → count_by (λ v. ltb 128 (length v)) (map (λ o. o.1) (map (object_in image) es)) ≡ length (pages_named es)
+pub large_count : (blocks : ℕ) (image : Image) (es : List Entry) → FitAll es → list_all (has_its_value blocks image) es ≡ true → count_by (λ v. ltb 128 (length v)) (map (λ o. o.1) (map (object_in image) es)) ≡ length (pages_named es)
 large_count blocks image [] fits all = refl
 large_count blocks image (e ∷ es) fits all =
     let v = and_parts (has_its_value blocks image e) (list_all (has_its_value blocks image) es) all in

@@ -1,13 +1,16 @@
 -- What entries make of the objects of an image.
-use Rattle.std.specs.Prelude.{◌≡◌, true, false, List, length, map, Some}
-use Rattle.std.specs.List.{AllByRecursion}
+use Rattle.std.specs.Prelude.{◌≡◌, ◌≤◌, ℕ, true, false, List, length, map, Some}
+use Rattle.std.specs.List.{AllByRecursion, list_all}
 use Rattle.std.specs.FinMap as objects
 use Rattle.kv_nand.specs.Flash.{Image}
-use Rattle.kv_device.specs.Objects.{seen_through}
+use Rattle.kv_device.specs.Objects.{seen_through, page_count}
 use Rattle.kssd_entry.specs.declared.entry.Entry.{Entry}
-use Rattle.kssd_entry.specs.Spelling.{key_of}
-use Rattle.kssd_model.specs.Rising.{is_gone, is_rising}
-use Rattle.kssd_image.specs.Stages.{value_in, object_in, objects_in, change_in, changes_of}
+use Rattle.kssd_entry.specs.Spelling.{key_of, FitsEntry}
+use Rattle.kssd_model.specs.Rising.{is_gone, is_rising, merged}
+use Rattle.kssd_image.specs.Stages.{without_marks, value_in, object_in, objects_in, change_in, changes_of}
+use Rattle.kssd_image.specs.Whole.{pages_named, has_its_value, is_value_block, is_unnamed, leaves_a_block}
+use Rattle.kssd_model.specs.GroupsLaws.{HasBytes}
+use Rattle.kssd_frames.specs.Same.{AreSameValues}
 use Rattle.kssd_frames.specs.Logging.{shown_after}
 
 -- an entry has the value that its key's object has already
@@ -21,3 +24,11 @@ pub record EntriesAreChanges : Type 0 where
   pub each : (image : Image) (entries : List Entry) → is_rising entries ≡ true → objects.entries (changes_of image entries) ≡ map (change_in image) entries
   pub count : (image : Image) (entries : List Entry) → is_rising entries ≡ true → objects.len (changes_of image entries) ≡ length entries
   pub moves : (image : Image) (entries : List Entry) → AllByRecursion (IsMove image) entries → seen_through (changes_of image entries) (objects_in image) ≡ objects_in image
+  pub stays : (old new : Image) (entries : List Entry) → is_rising entries ≡ true → AreSameValues old new entries → changes_of new entries ≡ changes_of old entries
+
+-- how large the objects after a group are; its values and those before are whole; and a block that no entry names is one that is left
+pub record RoomIsJudgedByObjects : Type 0 where
+  pub keys : (image : Image) (entries : List Entry) → objects.len (seen_through (changes_of image entries) (objects_in image)) ≡ length (shown_after image entries)
+  pub pages : (blocks : ℕ) (image : Image) (entries : List Entry) → HasBytes image → AllByRecursion FitsEntry entries → list_all (has_its_value blocks image) (shown_after image entries) ≡ true → page_count (seen_through (changes_of image entries) (objects_in image)) ≡ length (pages_named (shown_after image entries))
+  pub values : (blocks : ℕ) (image : Image) (entries older : List Entry) → list_all (has_its_value blocks image) entries ≡ true → list_all (has_its_value blocks image) older ≡ true → list_all (has_its_value blocks image) (without_marks (merged entries older)) ≡ true
+  pub block : (blocks : ℕ) (entries : List Entry) (block : ℕ) → 256 ≤ blocks → is_value_block blocks block ≡ true → is_unnamed entries block ≡ true → leaves_a_block blocks entries ≡ true

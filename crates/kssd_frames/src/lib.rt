@@ -11,7 +11,7 @@ mod shown;
 mod spare;
 
 pub use anchoring::{anchors_take_over, sound_stays};
-pub use changing::entries_are_changes;
+pub use changing::{entries_are_changes, room_is_judged_by_objects};
 pub use logging::{keys_are_counted, logs_are_maps, logs_tell_the_objects};
 pub use merging::{lists_are_their_lookups, marks_are_nothing, merging_is_associative};
 pub use same::{
