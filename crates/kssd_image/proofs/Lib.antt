@@ -3,3 +3,4 @@ pub mod LogDamage
 pub mod OneDamage
 pub mod Blank
 pub mod Props
+pub mod Undamaged

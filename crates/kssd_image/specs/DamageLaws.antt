@@ -23,8 +23,9 @@ pub record IsClear (blocks : ℕ) (image : Image) (found : Found) : Type 0 where
 abbrev pub DamageIsOne : Type 0
 DamageIsOne = (blocks : ℕ) (image : Image) (first second : Damage) → IsDamage blocks image first → IsDamage blocks image second → first ≡ second
 
--- none applies to a sound image, which is one that is clear of each
+-- sound is an image to which none applies, and which is clear of each
 pub record SoundIsWithoutDamage : Type 0 where
   pub none : (blocks : ℕ) (image : Image) (damage : Damage) → Sound blocks image → IsDamage blocks image damage → ⊥
   pub clear : (blocks : ℕ) (image : Image) (found : Found) → IsClear blocks image found → Sound blocks image
   pub sound : (blocks : ℕ) (image : Image) (found : Found) → newest_in image ≡ Some found → Sound blocks image → IsClear blocks image found
+  pub otherwise : (blocks : ℕ) (image : Image) → ((damage : Damage) → IsDamage blocks image damage → ⊥) → Sound blocks image

@@ -6,7 +6,7 @@ pub fn damage_is_one()
     ensures { DamageIsOne }
 {}
 
-/// None applies to a sound image, and an image that is clear of each is sound.
+/// An image is sound exactly where no damage applies, which is where it is clear of each kind.
 pub fn sound_is_without_damage()
     ensures { SoundIsWithoutDamage }
 {}
