@@ -6,6 +6,3 @@ mod reading;
 
 pub use changing::{add, remove};
 pub use reading::{find, is_empty, list};
-
-#[cfg(test)]
-mod tests;

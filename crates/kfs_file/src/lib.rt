@@ -10,6 +10,3 @@ pub use reading::read_at;
 pub use removing::remove;
 pub use sizing::set_length;
 pub use writing::write_at;
-
-#[cfg(test)]
-mod tests;

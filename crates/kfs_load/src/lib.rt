@@ -3,7 +3,5 @@
 
 mod draws;
 mod load;
-#[cfg(test)]
-mod tests;
 
 pub use load::make_script;

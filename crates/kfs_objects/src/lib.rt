@@ -11,6 +11,3 @@ pub use keys::{
 };
 pub use laws::{one_key, read_back};
 pub use records::{EntryRecord, Inode, Super, orphan_value};
-
-#[cfg(test)]
-mod tests;

@@ -21,6 +21,3 @@ pub use key_map::KeyMap;
 pub use map_device::MapDevice;
 pub use plans::{CutPlan, Plans, Strike};
 pub use run::{Command, Reply, run_all, serve};
-
-#[cfg(test)]
-mod tests;
