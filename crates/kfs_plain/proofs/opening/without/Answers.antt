@@ -1,4 +1,4 @@
-use Rattle.std.proofs.Common.{◌≡◌, rules, ap, ◌∙◌, filter, List, ℕ, not}
+use Rattle.std.proofs.Common.{rules, ap, ◌∙◌, filter, List, ℕ, not}
 use Rattle.std.specs.Prelude.{◌==◌}
 use Rattle.std.specs.List.{list_any}
 use Rattle.std.proofs.lemmas.Map.Made.{filter_same_pairs}

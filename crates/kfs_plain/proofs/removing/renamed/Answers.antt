@@ -1,7 +1,6 @@
-use Rattle.std.proofs.Common.{◌≡◌, ◌∙◌, ap, subst, ℕ, List, filter, map}
-use Rattle.std.specs.Prelude.{IfOk, not}
+use Rattle.std.proofs.Common.{◌≡◌, ◌∙◌, ap, subst, ℕ, List, map}
+use Rattle.std.specs.Prelude.{IfOk}
 use Rattle.kfs_model.specs.Tree.{Place, all_put, moved}
-use Rattle.kfs_model.specs.Step.{is_same_place}
 use Rattle.kfs_plain.proofs.removing.renamed.Goals as goal
 
 pub returns : goal.returns

@@ -1,4 +1,4 @@
-use Rattle.std.proofs.Common.{◌<◌, ◌^◌, ◌∙◌, ◌≡◌, ◌||◌, sym, ap, subst, arith, List, ℕ, sum_by, filter}
+use Rattle.std.proofs.Common.{◌<◌, ◌^◌, ◌∙◌, ◌||◌, sym, ap, subst, arith, List, ℕ, sum_by, filter}
 use Rattle.kfs_model.specs.declared.Node.{Node}
 use Rattle.kfs_model.specs.Tree.{chunks_of, is_named}
 use Rattle.kfs_model.specs.Desk.{is_open}
