@@ -1,5 +1,5 @@
 #!/usr/bin/env python3
-"""Lets each allocation of the proved program fail in turn, over the rows of crates/kevin/src/row_tests.rt.
+"""Lets each allocation of the proved program fail in turn, over the rows of crates/kfs_runner/src/row_tests.rt.
 
 usage: examples/want_of_memory.py [PROGRAM]     (crates/kevin/out/kevin, which `rt run` in crates/kevin leaves)
 
@@ -124,7 +124,7 @@ def main():
         return done.returncode, done.stdout, int(done.stderr)
 
     runs, wrong = 0, 0
-    for lines, want in rows_of(here + "/crates/kevin/src/row_tests.rt"):
+    for lines, want in rows_of(here + "/crates/kfs_runner/src/row_tests.rt"):
         status, text, _ = run(lines, 0)
         if status != 0 or text.splitlines() != want:
             sys.exit(f"the row doesn't answer as it should: {' ; '.join(lines)}")

@@ -2,32 +2,12 @@
 #![tactic(auto)]
 
 ghost use Rattle.std.specs.Prelude.{◌≡◌};
-ghost use Rattle.kevin.specs.Ending.{Ends, LeavesSource, side, IsWritten};
+ghost use Rattle.kfs_runner.specs.Ending.{Ends, LeavesSource, side};
 
-#[cfg(test)]
-mod cut_tests;
-mod ending;
-mod host;
-mod lines;
-mod load;
-mod memory;
-mod outside;
-mod reading;
-#[cfg(test)]
-mod row_tests;
-mod running;
-mod seat;
-mod standard;
-#[cfg(test)]
-mod tests;
-mod words;
-mod writing;
-
-use crate::ending::Ending;
+use kfs_runner::{
+    Incoming, MemShelf, NO_MEMORY, Outgoing, Shelf, Sink, Source, run_words, write_ending,
+};
 use kv_base::Text;
-pub use memory::{MemShelf, MemSink, MemSource};
-pub use outside::{OutsideFault, Shelf, Sink, Source};
-pub use standard::{Incoming, Outgoing};
 use std::alloc::Global;
 use std::process::ExitCode;
 use std::rt::Env;
@@ -48,21 +28,8 @@ pub fn kevin<H: Shelf, S: Source, O: Sink>(
     ensures shelf { H.held shelf.new ≡ H.held shelf.old }
 {
     let _ = &shelf;
-    let ending = running::run_words(alloc, words, script);
+    let ending = run_words(alloc, words, script);
     write_ending(out, &ending)
-}
-
-// Writes what there is to write, and answers the status.
-fn write_ending<O: Sink>(out: &mut O, ending: &Ending) -> u8
-    ensures { IsWritten ending.now (side (O.got out.old) (O.faults out.old)) (side (O.got out.new) (O.faults out.new)) result }
-{
-    match ending {
-        Ending::Quiet(status) => *status,
-        Ending::Prints(status, text) => match writing::write_whole(out, text.bytes()) {
-            Ok(()) => *status,
-            Err(_) => 5,
-        },
-    }
 }
 
 // The words after the program's name.
@@ -81,10 +48,10 @@ fn program_words(rt: &(impl Env + AllocGlobal)) -> io::Result<Vec<Text>> {
 fn run(rt: &(impl Env + Input + Print + AllocGlobal)) -> u8 {
     let alloc = rt.alloc();
     let Ok(words) = program_words(rt) else {
-        return ending::NO_MEMORY;
+        return NO_MEMORY;
     };
     let Ok(mut shelf) = MemShelf::new(alloc, b"", 0, &[]) else {
-        return ending::NO_MEMORY;
+        return NO_MEMORY;
     };
     let mut script = Incoming::new(rt.reader());
     let mut out = Outgoing::new(io::writer(rt));

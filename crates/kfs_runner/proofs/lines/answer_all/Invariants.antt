@@ -1,0 +1,17 @@
+use Rattle.std.proofs.Common.{◌≡◌, ◌≤◌, ◌+◌, ◌*◌, ◌^◌, ◌++◌, List, length, take}
+use Rattle.kfs_model.specs.declared.Answer.{Answer}
+use Rattle.kfs_model.specs.Life.{State, Life, newborn}
+use Rattle.kfs_script.specs.AnswerText.{texts_of}
+use Rattle.kfs_runner.proofs.lines.answer_all.Given as goal
+
+abbrev pub invariant-loop-line : goal.invariant-loop-line
+invariant-loop-line g l = record {
+  given : List Answer;
+  state : State;
+  life : Life (g.H.Host.limits l.initial.host) newborn (take l.line-index l.lines) given state;
+  text : l.text ≡ l.fn.text ++ texts_of given;
+  shows : g.H.Host.shows l.host state;
+  limits : g.H.Host.limits l.host ≡ g.H.Host.limits l.initial.host;
+  age : g.H.Host.age l.host ≤ 2 ^ 62 + 2 ^ 38 * l.line-index;
+  short : length l.text ≤ l.most;
+}

@@ -1,0 +1,92 @@
+use Rattle.std.proofs.Common.{◌≡◌, ◌<◌, ◌≤◌, ◌+◌, ◌∙◌, ◌∷◌, ℕ, suc, Bool, true, false, List, [], length, drop, get_or, sym, ap, subst, arith, add-one}
+use Rattle.std.proofs.Math.Seq.{drop-cons, drop-length}
+use Rattle.kfs_model.specs.declared.Line.{Line}
+use Rattle.kfs_model.specs.declared.Answer.{Answer}
+use Rattle.kfs_model.specs.declared.Answer.TheVariants as answers
+use Rattle.kfs_plain.specs.Plain.{Plain}
+use Rattle.kfs_plain.specs.declared.tree.Totals.{Totals}
+use Rattle.kfs_script.specs.Script.{IsLine}
+use Rattle.kfs_load.specs.Coming.{is_error}
+use Rattle.kfs_runner.specs.declared.load.Tally.{Tally}
+use Rattle.kfs_runner.specs.Seats.{seat_limits}
+use Rattle.kfs_runner.specs.Counts.{counted, Counts, IsCounted}
+use Rattle.kfs_runner.proofs.LoadRuns.{IsAt, begins, goes_on, ends, load_has, lines_hold, load_follows, load_few}
+use Rattle.kfs_runner.proofs.load.run_lines.Goals as goal
+
+rest_is : (ls : List Line) (i : ℕ) (line : Line) → i < length ls → line ≡ get_or ls i line → drop i ls ≡ line ∷ drop (i + 1) ls
+rest_is ls i line below is = drop-cons ls i line below ∙ ap (λ l. l ∷ drop (suc i) ls) (sym is) ∙ ap (λ k. line ∷ drop k ls) (sym (add-one i))
+
+one_more : (old new : Tally) (b : Bool) → new ≡ counted old b → new.dones + new.errors ≤ old.dones + old.errors + 1
+one_more old new true is = omega (arith, ap (λ (t : Tally). t.dones) is, ap (λ (t : Tally). t.errors) is)
+one_more old new false is = omega (arith, ap (λ (t : Tally). t.dones) is, ap (λ (t : Tally). t.errors) is)
+
+counts_few : (old new : Tally) (answer : Answer) → Counts old answer new → new.dones + new.errors ≤ old.dones + old.errors + 1
+counts_few old new (answers.Reply reply) counts = one_more old new (is_error reply) counts.now
+counts_few old new (answers.Mounted n) counts = omega (arith, ap (λ (t : Tally). t.dones) counts, ap (λ (t : Tally). t.errors) counts)
+counts_few old new (answers.Refused damage) counts = absurd counts
+
+pub loop-line-init : goal.loop-line-init
+loop-line-init c = record {
+  at = begins c.args.seat c.args.plain c.args.lines.now c.requires.shows c.requires.plain (load_follows c.args.lines.now c.requires.load);
+  age = c.requires.age;
+  next = omega (arith, ap (λ (p : Plain). p.world.tree.next) c.requires.plain);
+  few = omega arith;
+}
+
+pub answer-next-requires-clause-line : goal.answer-next-requires-clause-line
+answer-next-requires-clause-line c =
+    let below : c.loop-line.line-index < length c.args.lines.now = omega arith in
+    load_has IsLine lines_hold c.args.lines.now c.requires.load c.loop-line.line-index c.line-item.result below c.line-item.is
+
+pub answer-next-requires-clause-age : goal.answer-next-requires-clause-age
+answer-next-requires-clause-age c =
+    let below : c.loop-line.line-index < length c.args.lines.now = omega arith in
+    let few = load_few c.args.lines.now c.requires.load in
+    omega (arith, c.loop-line.invariant.age, few, below)
+
+pub with_answer-requires : goal.with_answer-requires
+with_answer-requires c =
+    let below : c.loop-line.line-index < length c.args.lines.now = omega arith in
+    let few = load_few c.args.lines.now c.requires.load in
+    omega (arith, c.loop-line.invariant.few, few, below)
+
+pub follow-requires : goal.follow-requires
+follow-requires c =
+    let below : c.loop-line.line-index < length c.args.lines.now = omega arith in
+    let few = load_few c.args.lines.now c.requires.load in
+    omega (arith, c.loop-line.invariant.next, few, below)
+
+pub loop-line-preserved : goal.loop-line-preserved
+loop-line-preserved c =
+    let k = seat_limits c.args.seat in
+    let line = c.line-item.result in
+    let answer = c.answer-next.result.1 in
+    let rest = drop (c.loop-line.line-index + 1) c.args.lines.now in
+    let below : c.loop-line.line-index < length c.args.lines.now = omega arith in
+    let R : List Line → Type 0 = λ ls. IsAt k c.loop-line.seat c.loop-line.plain c.loop-line.tally ls c.args.lines.now in
+    let at = subst R (rest_is c.args.lines.now c.loop-line.line-index line below c.line-item.is) c.loop-line.invariant.at in
+    let went = c.answer-next.ensures.goes_on c.loop-line.invariant.at.state c.loop-line.invariant.at.shows in
+    let P : Plain → Type 0 = λ p. IsAt k c.answer-next.result.0 p c.in_ok-tally.tally rest c.args.lines.now in
+    let age = went.4 in
+    let counts = counts_few c.loop-line.tally c.in_ok-tally.tally answer c.in_ok-tally.ensures in
+    record {
+      at = subst P (sym c.in_ok-follow.ensures.behind) (goes_on k c.loop-line.seat c.answer-next.result.0 c.loop-line.plain c.loop-line.tally c.in_ok-tally.tally line rest c.args.lines.now answer at c.answer-next.ensures.goes_on c.in_ok-tally.ensures);
+      age = omega (arith, age, c.loop-line.invariant.age);
+      next = omega (arith, c.in_ok-follow.ensures.next, c.loop-line.invariant.next);
+      few = omega (arith, counts, c.loop-line.invariant.few);
+    }
+
+pub returns-clause-counted : goal.returns-clause-counted
+returns-clause-counted c =
+    let k = seat_limits c.args.seat in
+    let end : c.loop-line.line-index ≡ length c.args.lines.now = omega arith in
+    let R : List Line → Type 0 = λ ls. IsAt k c.loop-line.seat c.loop-line.plain c.loop-line.tally ls c.args.lines.now in
+    let T : Totals → Type 0 = λ t. IsCounted k c.args.lines.now c.loop-line.tally t in
+    let at = subst R (ap (λ i. drop i c.args.lines.now) end ∙ drop-length c.args.lines.now) c.loop-line.invariant.at in
+    subst T (sym c.totals.ensures) (ends k c.loop-line.seat c.loop-line.plain c.loop-line.tally c.args.lines.now at)
+
+pub returns-clause-few : goal.returns-clause-few
+returns-clause-few c =
+    let end : c.loop-line.line-index ≤ length c.args.lines.now = omega arith in
+    let few = load_few c.args.lines.now c.requires.load in
+    omega (arith, c.loop-line.invariant.few, few, end)

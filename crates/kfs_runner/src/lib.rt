@@ -1,0 +1,29 @@
+//! Runs scripts of file calls and makes loads, from words and a stream of lines to a stream of answers.
+#![tactic(auto)]
+
+#[cfg(test)]
+mod cut_tests;
+mod ending;
+mod host;
+mod lines;
+mod load;
+mod memory;
+mod outside;
+mod reading;
+#[cfg(test)]
+mod row_tests;
+mod running;
+mod seat;
+mod standard;
+#[cfg(test)]
+mod tests;
+mod words;
+mod writing;
+
+pub use ending::{Ending, NO_MEMORY};
+pub use lines::{Unanswered, answer_lines};
+pub use memory::{MemShelf, MemSink, MemSource};
+pub use outside::{OutsideFault, Shelf, Sink, Source};
+pub use running::run_words;
+pub use standard::{Incoming, Outgoing};
+pub use writing::write_ending;

@@ -1,0 +1,86 @@
+// Lines of a script, each with its answer.
+ghost use Rattle.std.specs.Prelude.{◌≡◌, ◌≤◌, ◌++◌, ◌^◌, List, length, IfOk, OnOk, IfErr, All, false};
+ghost use Rattle.kfs_script.specs.AnswerText.{texts_of};
+ghost use Rattle.kfs_model.specs.Life.{State, newborn};
+ghost use Rattle.kfs_script.specs.Script.{IsLine, is_format};
+ghost use Rattle.kfs_runner.specs.Ending.{IsAnswered, Overflows};
+ghost use Rattle.kfs_runner.specs.Lines.{AnsweredFrom, OverflowsFrom};
+ghost use Rattle.kfs_runner.specs.declared.lines.Unanswered.TheVariants.{TooLong, Memory as NoMemory};
+
+use crate::host::Host;
+use crate::seat::Seat;
+use kfs_path::Reply;
+use kfs_script::{Answer, Line, write_answer};
+use kv_base::{Memory, Text};
+use std::alloc::Global;
+
+/// Why lines were not all answered.
+#[derive(Clone, Copy, Debug, PartialEq, Eq)]
+pub enum Unanswered {
+    /// The text of the answers has more bytes than it may have.
+    TooLong,
+    /// Out of memory.
+    Memory,
+}
+
+impl From<Memory> for Unanswered {
+    ghost from_gives = { λ _ e. e ≡ NoMemory };
+
+    fn from(_: Memory) -> Self {
+        Unanswered::Memory
+    }
+}
+
+/// Does the lines in their order, and adds the text of each answer, up to so many bytes.
+pub fn answer_all<H: Host>(
+    alloc: Global,
+    host: H,
+    lines: &[Line],
+    most: usize,
+    text: &mut Text,
+) -> Result<(), Unanswered>
+    requires shows { H.shows host newborn }
+    requires age { H.age host ≤ 2 ^ 62 }
+    requires few { length lines.now ≤ 2 ^ 23 }
+    requires lines { All IsLine lines.now }
+    requires formats { All (λ line. is_format line ≡ false) lines.now }
+    requires room { (H.limits host).keys ≤ 68544 }
+    requires short { length text.old ≤ most }
+    ensures ok { OnOk result (AnsweredFrom (H.limits host) lines.now most text.old text.new) }
+    ensures long { IfErr result (λ e. e ≡ TooLong → OverflowsFrom (H.limits host) lines.now most text.old) }
+{
+    let mut host = host;
+    for line in lines {
+        let (next, answer) = host.answer(alloc, line);
+        host = next;
+        write_answer(alloc, text, &answer)?;
+        if text.bytes().len() > most {
+            return Err(Unanswered::TooLong);
+        }
+    }
+    Ok(())
+}
+
+/// The text of the answers to a format of so many blocks and to the lines behind it, of at most so
+/// many bytes.
+pub fn answer_lines(
+    alloc: Global,
+    blocks: u16,
+    lines: &[Line],
+    most: usize,
+) -> Result<Text, Unanswered>
+    requires fewest { 256 ≤ blocks }
+    requires blocks { blocks ≤ 2048 }
+    requires few { length lines.now ≤ 2 ^ 23 }
+    requires lines { All IsLine lines.now }
+    requires formats { All (λ line. is_format line ≡ false) lines.now }
+    requires room { 3 ≤ most }
+    ensures ok { IfOk result (λ text. IsAnswered blocks lines.now most text) }
+    ensures long { IfErr result (λ e. e ≡ TooLong → Overflows blocks lines.now most) }
+{
+    let seat = Seat::format(alloc, blocks)?;
+    let mut text = Text::new(alloc, b"")?;
+    write_answer(alloc, &mut text, &Answer::Reply(Reply::Done))?;
+    answer_all(alloc, seat, lines, most, &mut text)?;
+    Ok(text)
+}
