@@ -1,5 +1,5 @@
 // The running transaction over the device in memory.
-ghost use Rattle.std.specs.Prelude.{◌≤◌, ◌^◌, IfSome};
+ghost use Rattle.std.specs.Prelude.{◌≤◌, ◌+◌, ◌^◌, IfSome, OnSome};
 ghost use Rattle.kfs_tx.specs.Run.{age_of};
 
 use kfs_objects::Super;
@@ -20,14 +20,22 @@ pub fn opened(alloc: Global) -> Option<Running<MapDevice>>
     Running::open(alloc, device, head).ok()
 }
 
+// Sets a key.
+fn put(alloc: Global, run: &mut Running<MapDevice>, name: &[u8]) -> Option<()>
+    requires { age_of run.old ≤ 2 ^ 40 }
+    ensures { OnSome result (age_of run.new ≤ age_of run.old + 2 ^ 16) }
+{
+    let value = Value::new(alloc, b"v").ok()?;
+    run.set(alloc, &Key::new(alloc, name).ok()?, &value).ok()
+}
+
 // With `k` and `l` set in one change of weight 4.
 fn changed(alloc: Global) -> Option<Running<MapDevice>>
     ensures { IfSome result (λ run. age_of run ≤ 2 ^ 21) }
 {
     let mut run = opened(alloc)?;
-    let value = Value::new(alloc, b"v").ok()?;
-    run.set(alloc, &Key::new(alloc, b"k").ok()?, &value).ok()?;
-    run.set(alloc, &Key::new(alloc, b"l").ok()?, &value).ok()?;
+    put(alloc, &mut run, b"k")?;
+    put(alloc, &mut run, b"l")?;
     let next = run.head().next;
     if run.change(alloc, 4, next).ok()? || run.weight() != 4 {
         return None;
