@@ -1,5 +1,5 @@
 #!/usr/bin/env python3
-"""Lets each allocation of the proved program fail in turn, over the rows of crates/kfs_runner/src/row_tests.rt.
+"""Lets each allocation of the proved program fail in turn, over the rows of scripts in crates/kevin_rows.
 
 usage: examples/want_of_memory.py [PROGRAM]     (crates/kevin/out/kevin, which `rt run` in crates/kevin leaves)
 
@@ -47,15 +47,26 @@ void *realloc(void *p, size_t n) {
 """
 
 
-def rows_of(path):
-    """The rows of the tests: lines and answers. The rows that fill the device are one."""
-    pair = r'\(\s*"((?:[^"\\]|\\.)*)",\s*"((?:[^"\\]|\\.)*)",?\s*\)'
-    source = open(path).read()
-    begin, end = source.index("const FULL"), source.index("fn all_answer")
-    full = re.findall(pair, source[begin:end])
-    rows = re.findall(pair, source[:begin] + source[end:])
-    rows.append((" ; ".join(lines for lines, _ in full), " ; ".join(answers for _, answers in full)))
-    return [(["@format 256"] + lines.split(" ; "), ["ok"] + answers.split(" ; ")) for lines, answers in rows]
+def lines_of(row):
+    """The lines of a row: `* N LINE` stands for N lines, with the count from 00 in the place of `{}`."""
+    for line in row:
+        if line.startswith("* "):
+            _, count, line = line.split(" ", 2)
+            yield from (line.replace("{}", f"{number:02}") for number in range(int(count)))
+        else:
+            yield line
+
+
+def rows_of(folder):
+    """The rows of scripts in which nothing is to fail: lines and answers."""
+    scripts = open(folder + "/stdin").read().split("\n-- ")[1:]
+    answers = ("\n" + open(folder + "/stdout").read()).split("\n-- ")[1:]
+    for script, answer in zip(scripts, answers):
+        name, *lines = script.splitlines()
+        told, status, *answer = answer.splitlines()
+        assert name == told, f"{name} is told as {told}"
+        if status == "= 0" and not any(line.startswith(("$", "@cut", "@fail")) for line in lines):
+            yield list(lines_of(lines)), answer
 
 
 def by_line(lines, told):
@@ -124,7 +135,7 @@ def main():
         return done.returncode, done.stdout, int(done.stderr)
 
     runs, wrong = 0, 0
-    for lines, want in rows_of(here + "/crates/kfs_runner/src/row_tests.rt"):
+    for lines, want in rows_of(here + "/crates/kevin_rows"):
         status, text, _ = run(lines, 0)
         if status != 0 or text.splitlines() != want:
             sys.exit(f"the row doesn't answer as it should: {' ; '.join(lines)}")

@@ -24,6 +24,3 @@ pub use bounds::transactions_are_small;
 pub use fault::{CoreFault, HostFault};
 pub use formatting::format;
 pub use kfs::Kfs;
-
-#[cfg(test)]
-mod tests;

@@ -1,4 +1,4 @@
-//! Tests of the parts below a session, through their public calls: what no clause says of them, and
+//! Tests of the parts of a session, through their public calls: what no clause says of them, and
 //! no script shows.
 #![tactic(auto)]
 
@@ -15,4 +15,14 @@ mod objects;
 #[cfg(test)]
 mod paths;
 #[cfg(test)]
+mod plain_tree;
+#[cfg(test)]
 mod running;
+#[cfg(test)]
+mod scripts;
+#[cfg(test)]
+mod sessions;
+#[cfg(test)]
+mod streams;
+#[cfg(test)]
+mod trees;

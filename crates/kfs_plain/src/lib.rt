@@ -9,8 +9,6 @@ mod removing;
 mod room;
 mod tables;
 mod telling;
-#[cfg(test)]
-mod tests;
 mod tree;
 mod walking;
 mod writing;

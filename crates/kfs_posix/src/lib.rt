@@ -21,6 +21,3 @@ mod writing;
 pub use bounds::sessions_are_light;
 pub use kfs_core::{HostFault, transactions_are_small};
 pub use session::Session;
-
-#[cfg(test)]
-mod tests;

@@ -1,8 +1,6 @@
 //! Runs scripts of file calls and makes loads, from words and a stream of lines to a stream of answers.
 #![tactic(auto)]
 
-#[cfg(test)]
-mod cut_tests;
 mod ending;
 mod host;
 mod lines;
@@ -10,13 +8,9 @@ mod load;
 mod memory;
 mod outside;
 mod reading;
-#[cfg(test)]
-mod row_tests;
 mod running;
 mod seat;
 mod standard;
-#[cfg(test)]
-mod tests;
 mod words;
 mod writing;
 

@@ -32,6 +32,3 @@ pub fn spelled_lines_are_read()
 pub fn numbers_have_one_spelling()
     ensures { (limit : ℕ) (v w : List ℕ) → limit < 2 ^ 64 → (n : ℕ) → number_to limit v ≡ Some n → number_to limit w ≡ Some n → v ≡ w }
 {}
-
-#[cfg(test)]
-mod tests;
