@@ -1,5 +1,5 @@
 -- What a run comes to, by its steps.
-use Rattle.std.proofs.Common.{◌≡◌, ◌≤◌, ◌<◌, ◌⊎◌, ◌∙◌, inl, inr, ℕ, true, false, cond, List, [], length, Option, Some, None, refl, sym, ap, subst, nat_lt, arith, length-append, IfSome}
+use Rattle.std.proofs.Common.{◌≡◌, ◌≤◌, ◌<◌, ◌⊎◌, inl, inr, ℕ, true, false, List, [], length, Option, Some, None, refl, sym, ap, subst, nat_lt, arith, length-append, IfSome}
 use Rattle.std.proofs.lemmas.Bool.Decides.{nat_tests}
 use Rattle.kfs_script.specs.Script.{script_of}
 use Rattle.kfs_runner.specs.declared.ending.Ending.{Ending}

@@ -9,10 +9,10 @@ use Rattle.kfs_model.specs.declared.Line.{Line}
 use Rattle.kfs_model.specs.declared.Line.TheVariants as lines
 use Rattle.kfs_model.specs.declared.Answer.{Answer}
 use Rattle.kfs_model.specs.declared.Answer.TheVariants as answers
-use Rattle.kfs_model.specs.Tree.{Limits, Tree, node_of, is_named, named}
-use Rattle.kfs_model.specs.Desk.{Desk, empty_desk, is_open}
-use Rattle.kfs_model.specs.Step.{World, After, step}
-use Rattle.kfs_model.specs.Life.{State, Live, Now, Up, Down, Event, EventAt, IsFree, IsDone, Falls, live_after, tree_at, up_at, with_now, newborn}
+use Rattle.kfs_model.specs.Tree.{Limits, node_of, is_named, named}
+use Rattle.kfs_model.specs.Desk.{empty_desk, is_open}
+use Rattle.kfs_model.specs.Step.{World, step}
+use Rattle.kfs_model.specs.Life.{State, Live, Now, Up, Event, EventAt, live_after, tree_at, up_at, with_now, newborn}
 use Rattle.kfs_plain.specs.Tables.{free_number}
 use Rattle.kfs_plain.specs.Plain.{Plain, totals_of}
 use Rattle.kfs_plain.specs.declared.tree.Totals.{Totals}
@@ -22,7 +22,7 @@ use Rattle.kfs_posix.specs.Showing.{ShowsLive, ShowsNow}
 use Rattle.kfs_load.specs.Coming.{first_live, done_call, behind_line, behind_lines, replies_to, is_error, errors_in, dones_in}
 use Rattle.kfs_load.specs.Generator.{IsLoadRest, load_rest}
 use Rattle.kfs_load.proofs.LineLaws.{Place, Idle, Opened, Over, Follow, HoldsOf, every_line, few_lines, rest_follows, rest_is}
-use Rattle.kfs_load.proofs.Going.{AreOne, Held, IsGoing, CallGoes, call_goes}
+use Rattle.kfs_load.proofs.Going.{AreOne, Held, IsGoing, call_goes}
 use Rattle.kfs_load.proofs.Counting.{dones_more, errors_more}
 use Rattle.kfs_load.proofs.Named.{named_all}
 use Rattle.kfs_runner.specs.declared.seat.Seat.{Seat}
@@ -32,7 +32,7 @@ use Rattle.kfs_script.specs.Script.{IsLine, is_format}
 use Rattle.kfs_runner.specs.Seats.{IsDown, shows_seat, seat_limits, seat_age}
 use Rattle.kfs_runner.specs.Numbers.{limits_of}
 use Rattle.kfs_runner.specs.Load.{numbers_text, lines_text, load_text}
-use Rattle.kfs_runner.specs.Counts.{counted, is_down, Counts, CountsReply, plain_behind, IsCounted}
+use Rattle.kfs_runner.specs.Counts.{counted, is_down, Counts, plain_behind, IsCounted}
 
 -- ---- what a session knows of its tree
 

@@ -1,5 +1,5 @@
 -- Lines on a session or its device, as events of a life.
-use Rattle.std.proofs.Common.{◌≡◌, ◌<◌, ◌≤◌, ◌+◌, ◌-◌, ◌^◌, ◌⊎◌, inl, inr, ◌∙◌, ℕ, max, Bool, true, false, [], ◌∷◌, Some, refl, sym, ap, subst, arith, nat_le}
+use Rattle.std.proofs.Common.{◌≡◌, ◌<◌, ◌≤◌, ◌+◌, ◌-◌, ◌^◌, inl, ◌∙◌, ℕ, max, Bool, true, false, [], ◌∷◌, Some, refl, sym, ap, subst, arith, nat_le}
 use Rattle.std.specs.Prelude.{IsTrue, ◌&&◌}
 use Rattle.std.proofs.lemmas.Bool.Decides.{nat_tests}
 use Rattle.kv_base.specs.Counts.{one_more}

@@ -1,5 +1,5 @@
 -- What is counted while lines are done on a session, and on a plain tree beside it.
-use Rattle.std.specs.Prelude.{ℕ, ◌+◌, ◌≡◌, Bool, true, false, List}
+use Rattle.std.specs.Prelude.{◌+◌, ◌≡◌, Bool, true, false, List}
 use Rattle.kfs_path.specs.declared.call.Reply.{Reply}
 use Rattle.kfs_path.specs.declared.call.Reply.TheVariants as replies
 use Rattle.kfs_model.specs.declared.Line.{Line}

@@ -1,5 +1,5 @@
 -- The objects in memory: what they hold, and which of their calls fail.
-use Rattle.std.specs.Prelude.{ℕ, ◌-◌, ◌==◌, ◌&&◌, ◌||◌, ◌++◌, not, min, nat_lt, Bool, List, [], length, take, drop, if◌then◌else◌}
+use Rattle.std.specs.Prelude.{ℕ, ◌-◌, ◌==◌, ◌&&◌, ◌||◌, ◌++◌, min, nat_lt, Bool, List, length, take, drop, if◌then◌else◌}
 use Rattle.std.specs.List.{list_any}
 use Rattle.kv_base.specs.Counts.{one_more}
 use Rattle.kfs_runner.specs.declared.memory.Failing.{Failing}
