@@ -1,0 +1,9 @@
+pub mod PageMaking
+pub mod Sound
+pub mod States
+pub mod Filled
+pub mod Victims
+pub mod Opening
+pub mod Putting
+pub mod Copying
+pub mod Clearing
