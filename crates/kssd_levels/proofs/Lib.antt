@@ -1,0 +1,13 @@
+pub mod Reading
+pub mod Finding
+pub mod Layers
+pub mod Lookups
+pub mod FromKey
+pub mod Distinct
+pub mod Named
+pub mod Sorting
+pub mod Installing
+pub mod Free
+pub mod Keeping
+pub mod Spare
+pub mod Staying

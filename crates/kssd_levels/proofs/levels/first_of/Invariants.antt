@@ -1,0 +1,13 @@
+use Rattle.std.proofs.Common.{◌≡◌, ◌++◌, ◌-◌, length}
+use Rattle.kssd_model.specs.OnlyReading.{OnlyReads}
+use Rattle.kssd_levels.proofs.levels.first_of.Given as goal
+
+abbrev pub invariant-entries : goal.invariant-entries
+invariant-entries g l = record {
+  stands : g.S.Ordered.stands l.source (g.N.Nand.flash l.fn.nand).blocks (g.N.Nand.flash l.fn.nand).image;
+  reads : OnlyReads (g.N.Nand.flash l.fn.nand) (g.N.Nand.flash l.nand);
+  left : g.S.Ordered.rest l.fn.source (g.N.Nand.flash l.fn.nand).image ≡ l.found ++ g.S.Ordered.rest l.source (g.N.Nand.flash l.fn.nand).image;
+}
+
+abbrev pub decreases-entries : goal.decreases-entries
+decreases-entries g l = 32 - length l.found

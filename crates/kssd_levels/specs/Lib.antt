@@ -1,0 +1,15 @@
+pub mod Runs
+pub mod Reader
+pub mod ReaderLaws
+pub mod Two
+pub mod TwoLaws
+pub mod First
+pub mod Written
+pub mod Sound
+pub mod Levels
+pub mod Over
+pub mod Opening
+pub mod Six
+pub mod Streams
+pub mod StreamLaws
+pub mod Laws
