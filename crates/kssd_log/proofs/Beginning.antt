@@ -1,8 +1,8 @@
 -- A ring block is erased in which a new log begins.
-use Rattle.std.proofs.Common.{◌≡◌, ℕ, ◌*◌, ◌≤◌, sym, ap, subst, arith, inl, inr}
-use Rattle.kv_nand.specs.Flash.{Flash, Image, LeftByErase}
+use Rattle.std.proofs.Common.{◌≡◌, ℕ, ◌*◌, ◌≤◌, sym, ap, subst, arith, inl, inr, [], refl}
+use Rattle.kv_nand.specs.Flash.{Flash, Image, Erased, LeftByErase}
 use Rattle.kv_nand.specs.Calls.{erased}
-use Rattle.kssd_model.specs.Groups.{next_block}
+use Rattle.kssd_model.specs.Groups.{HasLog, seen, next_block}
 use Rattle.kssd_model.proofs.GroupsPaths.{next_in_ring, ends_in_ring}
 use Rattle.kssd_log.specs.Ring.{begun}
 use Rattle.kssd_log.specs.Append.{IsPlace, KeepsLogs, StaysOutside}
@@ -27,4 +27,16 @@ begin_place old new last seq blocks e = record {
     later = λ q same more. is_erased old new (next_block last) q e (omega arith);
   };
   blocks = rw (ap (λ f. f.blocks) e) blocks;
+}
+
+-- a log that begins where a page is Erased has nothing in it
+pub empty_log : (image : Image) (page number : ℕ) → image page ≡ Erased → HasLog image page number [] [] 0 page number
+empty_log image page number erased = record {
+  pages = [];
+  path = (refl, refl);
+  stand = tt;
+  ends = ap (seen page number) erased;
+  groups_are = refl;
+  rest_is = refl;
+  turns_are = refl;
 }

@@ -1,11 +1,11 @@
 // The ring of the log's blocks.
-ghost use Rattle.std.specs.Prelude.{◌≡◌, ◌≤◌, ◌<◌, ◌+◌, ◌*◌, ◌/◌, ◌^◌, List, length, IfOk, OnOk, OnErr, IfErr};
+ghost use Rattle.std.specs.Prelude.{◌≡◌, ◌≤◌, ◌<◌, ◌+◌, ◌*◌, ◌/◌, ◌^◌, List, [], length, IfOk, OnOk, OnErr, IfErr};
 ghost use Rattle.kv_nand.specs.Working.{Works, Stops, ops_more};
 ghost use Rattle.kssd_entry.specs.declared.entry.Entry.{Entry};
 ghost use Rattle.kssd_log.specs.Ring.{IsInRing, IsBehind, begun, turned, room_of, turns_for};
 ghost use Rattle.kssd_log.specs.Append.{IsPlace, pages_of, Appends, MayAppend, Carries, KeepsGroups, KeepsLogs, StaysOutside};
 ghost use Rattle.kv_nand.specs.Faults.{flash_fault};
-ghost use Rattle.kssd_model.specs.Groups.{next_block};
+ghost use Rattle.kssd_model.specs.Groups.{HasLog, next_block};
 
 use crate::place::Place;
 use crate::turn::block_after;
@@ -53,13 +53,15 @@ impl Ring {
     }
 
     /// Erases the ring block after the one in which a log ends, and gives a ring whose place is its
-    /// page 0. Each log that ends there is as before, also after a fault.
+    /// page 0, where a log without groups begins. Each log that ends there is as before, also after a
+    /// fault.
     pub fn begin<N: Nand>(nand: &mut N, last: u16, seq: u64) -> Result<Ring, NandFault>
         requires last { (2 ≤ last) × (last ≤ 19) }
         requires number { seq < 2 ^ 63 }
         requires blocks { 256 ≤ (N.flash nand.old).blocks }
         ensures ok { IfOk result (λ ring. ring ≡ begun (next_block last) seq) }
         ensures place { IfOk result (λ ring. IsPlace (N.flash nand.new) ring) }
+        ensures empty { IfOk result (λ ring. HasLog (N.flash nand.new).image ring.page ring.seq [] [] 0 ring.page ring.seq) }
         ensures kept { KeepsLogs last (N.flash nand.old).image (N.flash nand.new).image }
         ensures outside { StaysOutside (N.flash nand.old).image (N.flash nand.new).image }
         ensures works { OnOk result (Works (N.flash nand.old) (N.flash nand.new) 1 0) }
