@@ -1,7 +1,7 @@
 -- A page is copied into the block copied into.
 use Rattle.std.proofs.Common.{◌≡◌, ◌∙◌, ℕ, ◌+◌, ◌*◌, ◌/◌, ◌%◌, ◌<◌, Bool, true, false, List, get_or, Some, sym, ap, subst, arith, inl, inr}
-use Rattle.std.specs.Prelude.{eqb, is_some, count_by}
-use Rattle.std.proofs.lemmas.Bool.{cases_lt, false≢true, or_from}
+use Rattle.std.specs.Prelude.{eqb, is_some, count_by, nat_lt}
+use Rattle.std.proofs.lemmas.Bool.{cases_lt, false≢true, or_from, and_from, and_parts, eq-eqb, eqb-true, lt-ltb, ltb-true}
 use Rattle.std.proofs.lemmas.List.{get_or_past}
 use Rattle.kv_nand.specs.Flash.{Image, PageState, Erased, Whole, with_page, LeftByProgram}
 use Rattle.kssd_image.specs.ValuePages.{value_page, first_bytes}
@@ -12,9 +12,9 @@ use Rattle.kssd_values.specs.declared.mark.Mark.TheVariants.{Dead}
 use Rattle.kssd_values.specs.declared.values.Values.{Values}
 use Rattle.kssd_values.specs.Marks.{is_live}
 use Rattle.kssd_values.specs.Places.{IsValueBlock, AreValues, is_in, next_in, room_in, is_below_in}
-use Rattle.kssd_values.specs.Blocks.{Target, device_of, state_at, is_live_at, target_next}
+use Rattle.kssd_values.specs.Blocks.{device_of, state_at, is_live_at}
 use Rattle.kssd_values.specs.Pages.{FillsBlock, FillsIn, Fills, KeepsPages, is_value, key_in, size_in}
-use Rattle.kssd_values.specs.Changes.{Copies, CopiesPage, SameBlocks}
+use Rattle.kssd_values.specs.Changes.{Copies, CopiesPage, GoesOn}
 use Rattle.kssd_values.proofs.Sound.{target_sound}
 use Rattle.kssd_values.proofs.States.{by_tests, is_in-same, target_alone}
 use Rattle.kssd_values.proofs.Filled.{block_of, fills_more, in_apart, not_below, keeps_program, with_page-same}
@@ -27,6 +27,15 @@ live_within v page h = elim (cases_lt page (32 * device_of v)) [
   | inl low ↦ low
   | inr past ↦ absurd (false≢true (sym (ap is_live (get_or_past v.marks.items page Dead (omega (arith, v.sound.pages)))) ∙ h))
 ]
+
+-- pages below the next one
+below_is : (f : Filling) (q : ℕ) → q / 32 ≡ f.block → q % 32 < f.next → is_below_in (Some f) q ≡ true
+below_is f q e lt = and_from (eqb (q / 32) f.block) (nat_lt (q % 32) f.next) (eq-eqb (q / 32) f.block e) (lt-ltb (q % 32) f.next lt)
+
+below_parts : (f : Filling) (q : ℕ) → is_below_in (Some f) q ≡ true → (q / 32 ≡ f.block) × (q % 32 < f.next)
+below_parts f q h =
+    let p = and_parts (eqb (q / 32) f.block) (nat_lt (q % 32) f.next) h in
+    (eqb-true (q / 32) f.block p.0, ltb-true (q % 32) f.next p.1)
 
 -- a value's page has the kind of one
 pub kind_is : (state : PageState) (bytes : List ℕ) → state ≡ Whole bytes → is_value state ≡ true → get_or bytes 4096 0 ≡ 4
@@ -88,19 +97,23 @@ module _ (old : Values) (f : Filling) (was : old.target ≡ Some f) (room : f.ne
         opened = record { room = ap room_in opened; next = ap next_in opened };
         has = ap is_some target;
         begins = λ e. absurd cc;
-        goes_on = λ page e. let same_page : at ≡ page = cc in subst (λ p. (is_some old.target ≡ true) × IsValueBlock (device_of old) (p / 32) × (state_at old (p / 32) ≡ Target) × (p % 32 ≡ target_next old) × (target_next new ≡ target_next old + 1) × SameBlocks old new) same_page (
-          ap is_some was,
-          subst (λ n. IsValueBlock (device_of old) (n / 32)) (sym is) target_value,
-          ap (state_at old) block ∙ (λ i. by_tests (alone.0 i) (here i) (alone.1 i)),
-          ap (λ n. n % 32) is ∙ place.1 ∙ sym (ap next_in was),
-          ap next_in target ∙ ap (λ (x : Filling). x.next) more ∙ sym (ap (λ o. next_in o + 1) was),
-          record {
+        goes_on = λ page e. let same_page : at ≡ page = cc in subst (λ p. GoesOn old p new) same_page (record {
+          had = ap is_some was;
+          value = subst (λ n. IsValueBlock (device_of old) (n / 32)) (sym is) target_value;
+          here = ap (state_at old) block ∙ (λ i. by_tests (alone.0 i) (here i) (alone.1 i));
+          place = ap (λ n. n % 32) is ∙ place.1 ∙ sym (ap next_in was);
+          next = ap next_in target ∙ ap (λ (x : Filling). x.next) more ∙ sym (ap (λ o. next_in o + 1) was);
+          blocks = record {
             states = λ b. (λ i. by_tests (is_in (opened i) b) (is_in (target i) b) (get_or (free i) b false))
                 ∙ ap (λ k. by_tests (is_in old.opened b) (eqb k b) (get_or old.free.items b false)) same
                 ∙ sym (ap (λ o. by_tests (is_in old.opened b) (is_in o b) (get_or old.free.items b false)) was);
             free = ap (λ (fr : List Bool). count_by (λ x. x) fr) free;
-          },
-        );
+          };
+          page_is = ap (λ o. is_below_in o at) target ∙ below_is g at (block ∙ sym same) (omega (arith, place.1, ap (λ n. n % 32) is, ap (λ (x : Filling). x.next) more));
+          pages = λ q h.
+              let p = below_parts f q (sym (ap (λ o. is_below_in o q) was) ∙ h) in
+              ap (λ o. is_below_in o q) target ∙ below_is g q (p.0 ∙ sym same) (omega (arith, p.1, ap (λ (x : Filling). x.next) more));
+        });
       }
 
   pub copies_page : (before after : Image) (source at : ℕ) (bytes : List ℕ) → Fills old before → at ≡ 32 * f.block + f.next → before source ≡ Whole bytes → after ≡ with_page before (32 * f.block + f.next) (Whole bytes) → CopiesPage before source at after

@@ -128,7 +128,7 @@ module _ (old mid : Values) (f : Filling) (h : Opens old f mid) where
       room = let next : open_next new ≡ g.next = ap next_in opened in let left : open_room new ≡ 32 - g.next = ap room_in opened in omega (arith, next_is, h.room);
       goes_on = goes_on;
       begins = begins;
-      target = record { has = ap is_some (target ∙ h.target); next = ap next_in (target ∙ h.target) };
+      target = record { has = ap is_some (target ∙ h.target); next = ap next_in (target ∙ h.target); pages = λ q. ap (λ o. is_below_in o q) (target ∙ h.target) };
     }
 
   -- the open block and the block copied into, with the page

@@ -69,9 +69,13 @@ live_in v block = count_by is_live (take 32 (drop (32 * block) v.marks.items))
 abbrev pub live_count : Values → ℕ
 live_count v = count_by is_live v.marks.items
 
+-- whether the page lies in the block copied into, below its next page
+abbrev pub is_target_page : Values → ℕ → Bool
+is_target_page v page = is_below_in v.target page
+
 -- whether the page lies below the next one of the open block or of the block copied into
 abbrev pub is_filled : Values → ℕ → Bool
-is_filled v page = is_below_in v.opened page || is_below_in v.target page
+is_filled v page = is_below_in v.opened page || is_target_page v page
 
 -- a closed value block
 pub record IsClosed (v : Values) (block : ℕ) : Type 0 where

@@ -4,7 +4,7 @@ use Rattle.kv_nand.specs.Flash.{Image, Erased}
 use Rattle.kssd_values.specs.declared.values.Values.{Values}
 use Rattle.kssd_values.specs.declared.filling.Filling.{Filling}
 use Rattle.kssd_values.specs.Places.{IsValueBlock}
-use Rattle.kssd_values.specs.Blocks.{BlockState, Free, Open, Closed, Target, device_of, mark_at, state_at, open_next, open_room, has_target, target_next, free_count}
+use Rattle.kssd_values.specs.Blocks.{BlockState, Free, Open, Closed, Target, device_of, mark_at, state_at, open_next, open_room, has_target, target_next, free_count, is_target_page}
 
 -- the block that was open is closed
 abbrev pub close_open : BlockState → BlockState
@@ -47,6 +47,18 @@ pub record TakesBlock (old : Values) (block : ℕ) (state : BlockState) (after :
 pub record SameTarget (old new : Values) : Type 0 where
   pub has : has_target new ≡ has_target old
   pub next : target_next new ≡ target_next old
+  pub pages : (q : ℕ) → is_target_page new q ≡ is_target_page old q
+
+-- a page is the next of the block copied into, which goes on
+pub record GoesOn (old : Values) (page : ℕ) (new : Values) : Type 0 where
+  pub had : has_target old ≡ true
+  pub value : IsValueBlock (device_of old) (page / 32)
+  pub here : state_at old (page / 32) ≡ Target
+  pub place : page % 32 ≡ target_next old
+  pub next : target_next new ≡ target_next old + 1
+  pub blocks : SameBlocks old new
+  pub page_is : is_target_page new page ≡ true
+  pub pages : (q : ℕ) → is_target_page old q ≡ true → is_target_page new q ≡ true
 
 -- the same block is open, as far
 pub record SameOpen (old new : Values) : Type 0 where
@@ -83,7 +95,7 @@ pub record Copies (old : Values) (answer : Option ℕ) (new : Values) : Type 0 w
   pub opened : SameOpen old new
   pub has : has_target new ≡ true
   pub begins : answer ≡ None → (has_target old ≡ false) × (target_next new ≡ 0) × ((block : ℕ) × IsValueBlock (device_of old) block × TakesBlock old block Target (λ state. state) new)
-  pub goes_on : (page : ℕ) → answer ≡ Some page → (has_target old ≡ true) × IsValueBlock (device_of old) (page / 32) × (state_at old (page / 32) ≡ Target) × (page % 32 ≡ target_next old) × (target_next new ≡ target_next old + 1) × SameBlocks old new
+  pub goes_on : (page : ℕ) → answer ≡ Some page → GoesOn old page new
 
 -- a page was Erased, and holds now what the source held
 pub record CopiesPage (before : Image) (source page : ℕ) (after : Image) : Type 0 where

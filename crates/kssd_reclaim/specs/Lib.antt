@@ -1,0 +1,3 @@
+pub mod Sources
+pub mod Reclaim
+pub mod Steps
