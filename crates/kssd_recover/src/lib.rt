@@ -2,5 +2,7 @@
 #![tactic(auto)]
 
 mod formatting;
+mod log;
 
 pub use formatting::format;
+pub use log::{LogContents, is_erased_block, read_log};
