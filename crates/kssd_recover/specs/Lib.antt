@@ -1,3 +1,4 @@
 pub mod Faults
 pub mod Formatting
 pub mod Log
+pub mod Walk

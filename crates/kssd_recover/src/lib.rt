@@ -3,6 +3,8 @@
 
 mod formatting;
 mod log;
+mod walking;
 
 pub use formatting::format;
 pub use log::{LogContents, is_erased_block, read_log};
+pub use walking::{Visible, walk};
