@@ -1,11 +1,11 @@
 -- A device is fresh where the first anchor was written into erased blocks.
-use Rattle.std.proofs.Common.{◌≡◌, ◌∙◌, ℕ, ◌<◌, ◌≤◌, cond, eqb, None, refl, sym, ap, subst, arith, inl}
+use Rattle.std.proofs.Common.{◌≡◌, ◌∙◌, ℕ, ◌<◌, ◌≤◌, cond, eqb, None, ap, arith, inl}
 use Rattle.std.proofs.lemmas.Bool.Decides.{nat_tests}
 use Rattle.kv_nand.specs.Flash.{Image, PageState, Erased, Whole, with_page}
 use Rattle.kssd_model.specs.declared.anchor.Anchor.{Anchor}
 use Rattle.kssd_model.specs.AnchorSpelling.{anchor_page}
 use Rattle.kssd_anchor.specs.Places.{IsWritten}
-use Rattle.kssd_image.specs.Worked.{first_anchor, IsFormatted}
+use Rattle.kssd_image.specs.Worked.{first_anchor}
 use Rattle.kssd_image.proofs.Blank.{formatted_empty}
 use Rattle.kssd_recover.specs.Formatting.{IsErasedBelow, IsFresh}
 

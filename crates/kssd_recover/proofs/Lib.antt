@@ -2,3 +2,6 @@ pub mod Fresh
 pub mod Tables
 pub mod LogIs
 pub mod Walked
+pub mod Judging
+pub mod Streaming
+pub mod PartsAre

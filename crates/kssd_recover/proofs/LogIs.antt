@@ -1,11 +1,11 @@
 -- What a scan says of the log of an anchor.
-use Rattle.std.proofs.Common.{◌≡◌, ◌∙◌, ℕ, ◌+◌, ◌*◌, ◌/◌, ◌%◌, ◌<◌, ◌≤◌, ◌^◌, List, [], length, refl, sym, ap, subst, arith}
+use Rattle.std.proofs.Common.{◌≡◌, ◌∙◌, ℕ, ◌*◌, ◌/◌, ◌<◌, ◌≤◌, ◌^◌, List, [], length, sym, ap, subst, arith}
 use Rattle.kv_nand.specs.Flash.{Image}
 use Rattle.kssd_entry.specs.declared.entry.Entry.{Entry}
 use Rattle.kssd_log.specs.declared.found.Scan.{Scan}
 use Rattle.kssd_log.specs.Scan.{IsScan}
 use Rattle.kssd_model.specs.declared.anchor.Anchor.{Anchor}
-use Rattle.kssd_model.specs.Groups.{LogPage, Walk, Ends, seen, AreAllowed, groups_from, log_in}
+use Rattle.kssd_model.specs.Groups.{Walk}
 use Rattle.kssd_model.specs.Rising.{merged}
 use Rattle.kssd_model.proofs.GroupsWalks.{log_in_is}
 use Rattle.kssd_image.specs.Stages.{entries_of, log_map}

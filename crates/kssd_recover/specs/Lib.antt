@@ -2,3 +2,4 @@ pub mod Faults
 pub mod Formatting
 pub mod Log
 pub mod Walk
+pub mod Parts

@@ -2,9 +2,10 @@
 #![tactic(auto)]
 
 mod formatting;
+mod index;
 mod log;
+mod recovering;
 mod walking;
 
 pub use formatting::format;
-pub use log::{LogContents, is_erased_block, read_log};
-pub use walking::{Visible, walk};
+pub use recovering::{Parts, recover};

@@ -1,4 +1,4 @@
-use Rattle.std.proofs.Common.{◌≡◌, ◌∙◌, ℕ, ap}
+use Rattle.std.proofs.Common.{◌∙◌, ap}
 use Rattle.kv_nand.proofs.Chaining.{works_blocks}
 use Rattle.kssd_image.specs.Worked.{first_anchor}
 use Rattle.kssd_recover.proofs.Fresh.{fresh}

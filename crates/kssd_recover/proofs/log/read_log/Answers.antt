@@ -1,4 +1,4 @@
-use Rattle.std.proofs.Common.{◌≡◌, ◌∙◌, ◌*◌, refl}
+use Rattle.std.proofs.Common.{◌∙◌, ◌*◌, refl}
 use Rattle.kssd_recover.proofs.LogIs.{few_scanned, log_is}
 use Rattle.kssd_recover.proofs.log.read_log.Goals as goal
 

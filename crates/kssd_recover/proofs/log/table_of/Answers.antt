@@ -1,4 +1,4 @@
-use Rattle.std.proofs.Common.{◌≡◌, ◌≤◌, ◌∙◌, List, length, ap, subst, sym}
+use Rattle.std.proofs.Common.{◌≤◌, List, length, subst, sym}
 use Rattle.kssd_entry.specs.declared.entry.Entry.{Entry}
 use Rattle.kssd_model.specs.Rising.{merged}
 use Rattle.kssd_image.specs.Stages.{entries_of}

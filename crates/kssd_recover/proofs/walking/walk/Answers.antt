@@ -1,4 +1,4 @@
-use Rattle.std.proofs.Common.{◌≡◌, ◌∙◌, sym, ap}
+use Rattle.std.proofs.Common.{◌∙◌, sym, ap}
 use Rattle.std.specs.Option.{option_copied}
 use Rattle.kssd_recover.proofs.Walked.{walked_all}
 use Rattle.kssd_recover.proofs.walking.walk.Goals as goal

@@ -1,4 +1,4 @@
-use Rattle.std.proofs.Common.{◌≡◌, length}
+use Rattle.std.proofs.Common.{length}
 use Rattle.kssd_model.specs.OnlyReading.{OnlyReads}
 use Rattle.kssd_recover.specs.Walk.{IsWalked}
 use Rattle.kssd_recover.proofs.walking.walk.Given as goal

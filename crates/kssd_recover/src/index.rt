@@ -1,0 +1,118 @@
+// Reading what the newest anchor names.
+ghost use Rattle.std.specs.Prelude.{◌≡◌, ◌≤◌, ◌<◌, ◌-◌, ◌^◌, Some, length, IfOk, OnOk, IfErr};
+ghost use Rattle.kssd_image.specs.AnchorForm.{IsAnchorForm};
+ghost use Rattle.kssd_image.specs.Damages.{IsDamage};
+ghost use Rattle.kssd_image.specs.Stages.{without_marks};
+ghost use Rattle.kssd_image.specs.Whole.{Sound};
+ghost use Rattle.kssd_levels.specs.Levels.{AreOpened, StandLevels, all_runs, levels_map};
+ghost use Rattle.kssd_model.specs.Anchors.{newest_in};
+ghost use Rattle.kssd_model.specs.OnlyReading.{OnlyReads, StopsReading};
+ghost use Rattle.kssd_model.specs.Rising.{merged};
+ghost use Rattle.kssd_recover.specs.Faults.{FailsBy};
+ghost use Rattle.kssd_recover.specs.Parts.{LacksAnchor, IsRunDamage, IsIndexRead};
+ghost use Rattle.kssd_recover.specs.Walk.{IsCounted};
+
+use crate::log::{LogContents, read_log};
+use crate::walking::{Visible, walk};
+use kssd_anchor::newest;
+use kssd_layout::Layout;
+use kssd_levels::{Levels, RunList, Stream};
+use kssd_model::{Anchor, Found, copies_of};
+use kssd_run::RunFault;
+use kssd_table::Frozen;
+use kv_base::{Damage, Memory};
+use kv_nand::{FlashFault, MountFault, Nand};
+use std::alloc::Global;
+
+/// The newest anchor, its runs, and its log.
+#[derive(Debug, Drop)]
+pub struct Index {
+    pub found: Found,
+    pub levels: Levels,
+    pub log: LogContents,
+}
+
+// The newest anchor. It is damaged where there is none.
+fn newest_anchor<N: Nand>(alloc: Global, nand: &mut N) -> Result<Found, MountFault>
+    requires { (256 ≤ (N.flash nand.old).blocks) × ((N.flash nand.old).blocks ≤ 2048) }
+    ensures ok { IfOk result (λ found. newest_in (N.flash nand.old).image ≡ Some found) }
+    ensures reads { OnOk result (OnlyReads (N.flash nand.old) (N.flash nand.new)) }
+    ensures err { IfErr result (λ fault. FailsBy (LacksAnchor (N.flash nand.old).image) (N.flash nand.old) fault (N.flash nand.new)) }
+{
+    match newest(alloc, nand)? {
+        Some(found) => Ok(found),
+        None => Err(MountFault::Damaged(Damage::NoAnchor)),
+    }
+}
+
+// Opens the runs of an anchor. They are damaged at the first page that a mount refuses.
+fn open_levels<N: Nand>(
+    alloc: Global,
+    nand: &mut N,
+    layout: &Layout,
+    anchor: &Anchor,
+) -> Result<Levels, MountFault>
+    requires device { layout.now.blocks ≡ (N.flash nand.old).blocks }
+    requires form { IsAnchorForm layout.now.blocks anchor.now }
+    ensures ok { IfOk result (λ levels. AreOpened anchor.now.runs (N.flash nand.old).blocks (N.flash nand.old).image levels) }
+    ensures reads { OnOk result (OnlyReads (N.flash nand.old) (N.flash nand.new)) }
+    ensures err { IfErr result (λ fault. FailsBy (IsRunDamage (N.flash nand.old).image anchor.now) (N.flash nand.old) fault (N.flash nand.new)) }
+{
+    match Levels::open(alloc, nand, layout, anchor) {
+        Ok(levels) => Ok(levels),
+        Err(RunFault::Bad(page)) => Err(MountFault::Damaged(Damage::Run(page))),
+        Err(RunFault::Off) => Err(MountFault::Off),
+        Err(RunFault::Failed) => Err(MountFault::Failed),
+        Err(RunFault::Memory) => Err(MountFault::Memory),
+    }
+}
+
+/// Reads what the newest anchor names: its runs and its log, each judged page by page, in the order
+/// in which a mount refuses them.
+pub fn read_index<N: Nand>(
+    alloc: Global,
+    nand: &mut N,
+    layout: &Layout,
+) -> Result<Index, MountFault>
+    requires device { layout.now.blocks ≡ (N.flash nand.old).blocks }
+    requires sound { Sound (N.flash nand.old).blocks (N.flash nand.old).image }
+    ensures ok { IfOk result (IsIndexRead (N.flash nand.old).blocks (N.flash nand.old).image) }
+    ensures reads { OnOk result (OnlyReads (N.flash nand.old) (N.flash nand.new)) }
+    ensures err { IfErr result (λ fault. FailsBy (IsDamage (N.flash nand.old).blocks (N.flash nand.old).image) (N.flash nand.old) fault (N.flash nand.new)) }
+{
+    let found = newest_anchor(alloc, nand)?;
+    let levels = open_levels(alloc, nand, layout, &found.anchor)?;
+    let log = read_log(alloc, nand, &found.anchor)?;
+    Ok(Index { found, levels, log })
+}
+
+// Copies of the runs, in the anchor's order.
+fn runs_of(alloc: Global, levels: &Levels) -> Result<RunList, Memory>
+    ensures { IfOk result (λ runs. runs ≡ all_runs levels.now) }
+{
+    let mut runs = RunList::new(alloc);
+    runs.append_copies(alloc, levels.level(0))?;
+    runs.append_copies(alloc, levels.level(1))?;
+    runs.append_copies(alloc, levels.level(2))?;
+    Ok(runs)
+}
+
+/// Counts the visible entries of a log over levels, of which there are fewer than 2^32 - 1. Each
+/// page of the runs is read once.
+pub fn visible_in<N: Nand>(
+    alloc: Global,
+    nand: &mut N,
+    levels: &Levels,
+    log: &Frozen,
+) -> Result<Visible, FlashFault>
+    requires stand { StandLevels levels.now (N.flash nand.old).blocks (N.flash nand.old).image }
+    requires few { length (without_marks (merged log.now (levels_map levels.now (N.flash nand.old).image))) < 2 ^ 32 - 1 }
+    ensures ok { IfOk result (IsCounted (merged log.now (levels_map levels.now (N.flash nand.old).image))) }
+    ensures reads { OnOk result (OnlyReads (N.flash nand.old) (N.flash nand.new)) }
+    ensures err { IfErr result (λ fault. StopsReading (N.flash nand.old) fault (N.flash nand.new)) }
+{
+    let runs = runs_of(alloc, levels)?;
+    let entries = copies_of(alloc, log.entries())?;
+    let source = Stream::open(alloc, nand, entries, runs, None)?;
+    walk(alloc, nand, source)
+}
