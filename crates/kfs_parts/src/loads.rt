@@ -42,7 +42,12 @@ fn is_truncate(line: &Line, name: &[u8], size: i64) -> bool {
 fn is_open(line: &Line, name: &[u8]) -> bool {
     match line {
         Line::Call(Call::Open { path, flags }) => {
-            path.bytes() == name && flags.write && flags.creat && !flags.excl && !flags.append
+            path.bytes() == name
+                && flags.read
+                && flags.write
+                && flags.creat
+                && !flags.excl
+                && !flags.append
         }
         _ => false,
     }
