@@ -6,6 +6,7 @@ use Rattle.std.proofs.lemmas.Bool.{cases_lt, cases_eq, false≢true, true≢fals
 use Rattle.std.proofs.lemmas.List.{get_or_append_left, get_or_push, length_push}
 use Rattle.std.proofs.lemmas.List.Folds.{list_any-append}
 use Rattle.kv_nand.specs.Flash.{Image, PageState, Erased}
+use Rattle.kssd_values.proofs.Standing.{not_erased}
 use Rattle.kssd_values.specs.declared.values.Values.{Values}
 use Rattle.kssd_values.specs.declared.filling.Filling.{Filling}
 use Rattle.kssd_values.specs.Marks.{is_live}
@@ -17,10 +18,6 @@ use Rattle.kssd_reclaim.specs.declared.copies.CopyOf.{CopyOf}
 use Rattle.kssd_reclaim.specs.declared.reclaim.Reclaim.{Reclaim}
 use Rattle.kssd_reclaim.specs.Reclaim.{block_of, next_of, copies_of, IsNext, IsCopy, Collects}
 use Rattle.kssd_reclaim.specs.Steps.{Adds}
-
--- a value's page isn't Erased
-pub not_erased : (state : PageState) → is_value state ≡ true → state ≢ Erased
-not_erased state h e = false≢true (sym (ap is_value e) ∙ h)
 
 -- a call that keeps pages and makes no more pages of the block live keeps what copies hold
 pub collects_stays : (r : Reclaim) (v w : Values) (before after : Image) → Collects r v before

@@ -1,32 +1,48 @@
 -- What a step of a collection does.
-use Rattle.std.specs.Prelude.{◌≡◌, ◌+◌, ◌%◌, ◌++◌, ◌∷◌, [], ℕ, true, false, Some, None}
+use Rattle.std.specs.Prelude.{◌≡◌, ◌⊎◌, ◌+◌, ◌%◌, ◌++◌, ◌∷◌, [], ℕ, true, false, List, Some, None}
+use Rattle.kv_nand.specs.Flash.{Flash, PageState}
+use Rattle.kv_nand.specs.Working.{ops_more}
 use Rattle.kssd_values.specs.declared.values.Values.{Values}
-use Rattle.kv_nand.specs.Flash.{PageState}
-use Rattle.kssd_values.specs.Blocks.{has_target}
-use Rattle.kssd_values.specs.Pages.{key_in, size_in}
 use Rattle.kssd_values.specs.Changes.{Copies}
+use Rattle.kssd_values.specs.Pages.{key_in, size_in}
 use Rattle.kssd_reclaim.specs.declared.copies.CopyOf.{CopyOf}
 use Rattle.kssd_reclaim.specs.declared.reclaim.Reclaim.{Reclaim}
 use Rattle.kssd_reclaim.specs.Reclaim.{block_of, next_of, copies_of, AllCopied, IsNext}
 
 -- the collection is where it was
 pub record Waits (old new : Reclaim) : Type 0 where
+  pub block : block_of new ≡ block_of old
   pub next : next_of new ≡ next_of old
   pub copies : copies_of new ≡ copies_of old
 
--- one more page was copied
-pub record Copied (old : Reclaim) (v : Values) (copy : CopyOf) (new : Reclaim) (w : Values) : Type 0 where
+-- all is copied, and nothing is done
+pub record Idles (old : Reclaim) (v : Values) (before : Flash) (new : Reclaim) (w : Values) (after : Flash) : Type 0 where
+  pub all : AllCopied old v
+  pub waits : Waits old new
+  pub values : w ≡ v
+  pub flash : after ≡ before
+
+-- a block to copy into is taken
+pub record Begins (old : Reclaim) (v : Values) (before : Flash) (new : Reclaim) (w : Values) (after : Flash) : Type 0 where
+  pub page : ℕ
+  pub next : IsNext old v page
+  pub waits : Waits old new
+  pub values : Copies v None w
+  pub ops : after.ops ≡ ops_more before 1
+
+-- the next page is copied
+pub record CopiesNext (old : Reclaim) (v : Values) (before : Flash) (new : Reclaim) (w : Values) (after : Flash) : Type 0 where
+  pub copy : CopyOf
   pub source : IsNext old v copy.source
+  pub block : block_of new ≡ block_of old
   pub next : next_of new ≡ copy.source % 32 + 1
   pub copies : copies_of new ≡ copies_of old ++ copy ∷ []
   pub values : Copies v (Some copy.target) w
+  pub ops : after.ops ≡ ops_more before 1
 
--- nothing is done where all is copied; else a block to copy into is taken, or the next page is copied
-pub record Steps (old : Reclaim) (v : Values) (new : Reclaim) (w : Values) : Type 0 where
-  pub block : block_of new ≡ block_of old
-  pub idle : AllCopied old v → Waits old new × (w ≡ v)
-  pub begins : (AllCopied old v → ⊥) → has_target v ≡ false → Waits old new × Copies v None w
-  pub copies : (AllCopied old v → ⊥) → has_target v ≡ true → (copy : CopyOf) × Copied old v copy new w
+-- one of the three
+abbrev pub Steps : Reclaim → Values → Flash → Reclaim → Values → Flash → Type 0
+Steps old v before new w after = Idles old v before new w after ⊎ (Begins old v before new w after ⊎ CopiesNext old v before new w after)
 
 -- the copy of a page that stands in this state was added
 pub record Adds (old : Reclaim) (state : PageState) (source target : ℕ) (new : Reclaim) : Type 0 where

@@ -1,7 +1,7 @@
 ghost use Rattle.std.specs.Prelude.{◌≡◌, ◌≢◌, ◌<◌, ◌≤◌, ◌+◌, ◌*◌, ◌/◌, ◌%◌, ◌⊎◌, ◌↔◌, ◌++◌, ◌∷◌, [], ℕ, true, false, length, IsTrue, MatchOption, IfOk, OnOk, IfErr};
 ghost use Rattle.kv_nand.specs.Flash.{Image, LeftByErase};
 ghost use Rattle.kv_nand.specs.Calls.{erased, has_read, Falls};
-ghost use Rattle.kv_nand.specs.Working.{Works, Stops, ops_more};
+ghost use Rattle.kv_nand.specs.Working.{Works, Stops};
 ghost use Rattle.kssd_model.specs.OnlyReading.{StopsReading};
 ghost use Rattle.kssd_values.specs.declared.values.Values as lent;
 ghost use Rattle.kssd_values.specs.Places.{IsValueBlock};
@@ -105,13 +105,11 @@ impl Reclaim {
         requires device { device_of values.old ≡ (N.flash nand.old).blocks }
         requires stands { (page : ℕ) → page / 32 ≡ block_of self.old → is_live_at values.old page ≡ true → is_value ((N.flash nand.old).image page) ≡ true }
         requires fills { Fills values.old (N.flash nand.old).image }
-        ensures ok { OnOk result (Steps self.old values.old self.new values.new) }
+        ensures ok { OnOk result (Steps self.old values.old (N.flash nand.old) self.new values.new (N.flash nand.new)) }
         ensures done { IfOk result (λ done. IsTrue done ↔ AllCopied self.new values.new) }
         ensures collects { OnOk result (Collects self.old values.old (N.flash nand.old).image → Collects self.new values.new (N.flash nand.new).image) }
         ensures fills { OnOk result (Fills values.new (N.flash nand.new).image) }
         ensures keeps { KeepsPages values.old (N.flash nand.old).image (N.flash nand.new).image }
-        ensures idle { OnOk result (AllCopied self.old values.old → N.flash nand.new ≡ N.flash nand.old) }
-        ensures exact { OnOk result ((AllCopied self.old values.old → ⊥) → (N.flash nand.new).ops ≡ ops_more (N.flash nand.old) 1) }
         ensures works { OnOk result (Works (N.flash nand.old) (N.flash nand.new) 1 2) }
         ensures err { IfErr result (λ fault. Stops (N.flash nand.old) fault (N.flash nand.new) 1 2) }
     {

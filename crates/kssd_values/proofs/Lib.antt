@@ -7,3 +7,4 @@ pub mod Opening
 pub mod Putting
 pub mod Copying
 pub mod Clearing
+pub mod Standing

@@ -4,6 +4,7 @@ use Rattle.kv_nand.specs.Flash.{Image, Erased}
 use Rattle.kssd_values.specs.declared.values.Values.{Values}
 use Rattle.kssd_values.specs.declared.filling.Filling.{Filling}
 use Rattle.kssd_values.specs.Places.{IsValueBlock}
+use Rattle.kssd_values.specs.Pages.{Fills}
 use Rattle.kssd_values.specs.Blocks.{BlockState, Free, Open, Closed, Target, device_of, mark_at, state_at, open_next, open_room, has_target, target_next, free_count, is_target_page}
 
 -- the block that was open is closed
@@ -71,6 +72,7 @@ pub record SamePlaces (old new : Values) : Type 0 where
   pub blocks : SameBlocks old new
   pub opened : SameOpen old new
   pub target : SameTarget old new
+  pub fills : (image : Image) → Fills old image → Fills new image
 
 -- a page was put into the open block: its next one; where it had none, page 0 of a free block, which is the open one now
 pub record Puts (old : Values) (page : ℕ) (new : Values) : Type 0 where

@@ -1,6 +1,6 @@
 -- The pages of values in an image.
 use Rattle.std.specs.Prelude.{◌≡◌, ◌≢◌, ◌<◌, ◌≤◌, ◌/◌, ◌%◌, ℕ, Bool, true, List, [], drop, Option, None, Some}
-use Rattle.kv_nand.specs.Flash.{PageState, Image, Erased, Whole, Cut}
+use Rattle.kv_nand.specs.Flash.{Flash, PageState, Image, Erased, Whole, Cut}
 use Rattle.kssd_entry.specs.Reading.{count_in}
 use Rattle.kssd_image.specs.ValuePages.{has_value, key_in_page}
 use Rattle.kssd_values.specs.declared.filling.Filling.{Filling}
@@ -44,3 +44,13 @@ pub record KeepsPages (v : Values) (before after : Image) : Type 0 where
   pub outside : (q : ℕ) → (IsValueBlock (device_of v) (q / 32) → ⊥) → after q ≡ before q
   pub live : (q : ℕ) → is_live_at v q ≡ true → before q ≢ Erased → after q ≡ before q
   pub filled : (q : ℕ) → is_filled v q ≡ true → after q ≡ before q
+
+-- every visible or pending page is the page of a value
+pub record LiveStand (v : Values) (image : Image) : Type 0 where
+  pub each : (q : ℕ) → is_live_at v q ≡ true → is_value (image q) ≡ true
+
+-- the values of this flash: the blocks that are filled stand as they were filled, and the live pages as values
+pub record StandsIn (v : Values) (flash : Flash) : Type 0 where
+  pub device : device_of v ≡ flash.blocks
+  pub fills : Fills v flash.image
+  pub live : LiveStand v flash.image

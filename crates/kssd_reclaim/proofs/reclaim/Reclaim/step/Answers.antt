@@ -4,7 +4,8 @@ use Rattle.kv_nand.specs.Flash.{Flash}
 use Rattle.kv_nand.proofs.Chaining.{read_works, works_then_works}
 use Rattle.kssd_values.specs.Pages.{is_value}
 use Rattle.kssd_values.specs.Changes.{CopiesPage}
-use Rattle.kssd_reclaim.proofs.Holding.{not_erased, collects_begun, collects_added}
+use Rattle.kssd_reclaim.proofs.Holding.{collects_begun, collects_added}
+use Rattle.kssd_values.proofs.Standing.{not_erased}
 use Rattle.kssd_reclaim.proofs.reclaim.Reclaim.step.Goals as goal
 
 pub add-requires-clause-stands : goal.add-requires-clause-stands
