@@ -23,15 +23,23 @@ fn plain(alloc: Global, number: u64) -> Anchor
     }
 }
 
-// A run of so many entries in as many pages, and a block.
-fn run(alloc: Global, level: u8, number: u64, entries: u32, block: u16) -> Option<RunInfo> {
+fn run(
+    alloc: Global,
+    level: u8,
+    number: u64,
+    entries: u32,
+    pages: u32,
+    list: &[u16],
+) -> Option<RunInfo> {
     let mut blocks = BlockList::new(alloc);
-    blocks.push(block).ok()?;
+    for block in list {
+        blocks.push(*block).ok()?;
+    }
     Some(RunInfo {
         level,
         number,
         entries,
-        pages: entries,
+        pages,
         blocks,
     })
 }
@@ -39,8 +47,9 @@ fn run(alloc: Global, level: u8, number: u64, entries: u32, block: u16) -> Optio
 // An anchor with a run of level 0 and a base.
 fn with_runs(alloc: Global) -> Option<Anchor> {
     let mut anchor = plain(alloc, 0x0102030405060708);
-    anchor.runs.push(run(alloc, 0, 7, 9, 20)?).ok()?;
-    anchor.runs.push(run(alloc, 2, 5, 300, 165)?).ok()?;
+    anchor.runs.push(run(alloc, 0, 7, 9, 1, &[20])?).ok()?;
+    let base = run(alloc, 2, 5, 300, 34, &[21, 165])?;
+    anchor.runs.push(base).ok()?;
     anchor.copy(alloc).ok()
 }
 
@@ -53,10 +62,10 @@ const PLAIN: [u8; 22] = [
     0, 0, // no runs
 ];
 
-const RUNS: [u8; 44] = [
+const RUNS: [u8; 46] = [
     0, 2, // two runs
-    0, 0, 0, 0, 0, 0, 0, 0, 7, 0, 0, 0, 9, 0, 0, 0, 9, 0, 1, 0, 20, // level 0
-    2, 0, 0, 0, 0, 0, 0, 0, 5, 0, 0, 1, 0x2c, 0, 0, 1, 0x2c, 0, 1, 0, 165,
+    0, 0, 0, 0, 0, 0, 0, 0, 7, 0, 0, 0, 9, 0, 0, 0, 1, 0, 1, 0, 20, // level 0
+    2, 0, 0, 0, 0, 0, 0, 0, 5, 0, 0, 1, 0x2c, 0, 0, 0, 34, 0, 2, 0, 21, 0, 165,
 ];
 
 // A page of zeros but for these bytes at these places.
@@ -69,6 +78,12 @@ fn page_with(alloc: Global, parts: &[(usize, &[u8])]) -> Option<PageData> {
         page.put(*place, bytes);
     }
     Some(page)
+}
+
+// The page of anchor 1 without runs.
+fn plain_page(alloc: Global) -> Option<PageData> {
+    let spare = [1, 0, 0, 0, 0, 0, 0, 0, 0, 1];
+    page_with(alloc, &[(0, &PLAIN), (4096, &spare)])
 }
 
 // A flash of 256 blocks with this anchor in page 0.
@@ -99,6 +114,8 @@ fn is_spelled(alloc: Global, anchor: &Anchor, wanted: &PageData) -> Option<bool>
 #[test]
 fn an_anchor_has_its_bytes(rt: HostRuntime) -> Result<(), Fail> {
     let alloc = rt.alloc();
+    let page = plain_page(alloc).ok_or("memory")?;
+    assert_eq!(rt; is_spelled(alloc, &plain(alloc, 1), &page), Some(true));
     let spare = [1, 0, 1, 2, 3, 4, 5, 6, 7, 8];
     let page = page_with(alloc, &[(0, &PLAIN), (20, &RUNS), (4096, &spare)]).ok_or("memory")?;
     let anchor = with_runs(alloc).ok_or("memory")?;
@@ -108,8 +125,7 @@ fn an_anchor_has_its_bytes(rt: HostRuntime) -> Result<(), Fail> {
 
 // Whether page 0 reads as an anchor with one byte changed.
 fn reads_with(alloc: Global, place: usize, byte: u8) -> Option<bool> {
-    let spare = [1, 0, 0, 0, 0, 0, 0, 0, 0, 1];
-    let mut page = page_with(alloc, &[(0, &PLAIN), (4096, &spare)])?;
+    let mut page = plain_page(alloc)?;
     if place < 4160 {
         page.put(place, &[byte]);
     }
@@ -127,16 +143,20 @@ fn one_changed_byte_at_each_kind_of_place(rt: HostRuntime) {
         (0, 255, true),
         (2, 0x7f, true),
         (2, 0x80, false),
+        (12, 0x7f, true),
         (12, 0x80, false),
         (20, 1, false),
         (21, 1, true),
         (22, 1, false),
+        (4095, 1, false),
         (4096, 2, false),
         (4097, 1, false),
+        (4098, 0x7f, true),
         (4098, 0x80, false),
         (4105, 9, true),
         (4107, 1, false),
         (4111, 1, false),
+        (4112, 1, false),
         (4159, 1, false),
     ];
     for (place, byte, wanted) in cases {
@@ -164,19 +184,39 @@ fn fresh_has(alloc: Global) -> Option<Option<(u32, u64, usize)>> {
     newest_of(alloc, &mut nand)
 }
 
-fn written_has(alloc: Global) -> Option<Option<(u32, u64, usize)>> {
-    let anchor = with_runs(alloc)?;
-    let mut nand = with_anchor(alloc, &anchor)?;
+fn written_has(alloc: Global, anchor: &Anchor) -> Option<Option<(u32, u64, usize)>> {
+    let mut nand = with_anchor(alloc, anchor)?;
     newest_of(alloc, &mut nand)
 }
 
 #[test]
 fn a_fresh_flash_has_no_anchor_and_then_the_first(rt: HostRuntime) {
-    assert_eq!(rt; fresh_has(rt.alloc()), Some(None));
+    let alloc = rt.alloc();
+    assert_eq!(rt; fresh_has(alloc), Some(None));
+    assert_eq!(rt; written_has(alloc, &plain(alloc, 1)), Some(Some((0, 1, 0))));
+}
+
+// How many runs the newest anchor has once it is written, and of the last the number, the entries
+// and the last block.
+fn runs_read(alloc: Global) -> Option<(usize, u64, u32, u16)> {
+    let mut nand = with_anchor(alloc, &with_runs(alloc)?)?;
+    let found = newest(alloc, &mut nand).ok()??;
+    let runs = found.anchor.runs.as_slice();
+    let base = runs.last()?;
+    let block = *base.blocks.as_slice().last()?;
+    Some((runs.len(), base.number, base.entries, block))
+}
+
+#[test]
+fn runs_are_read_again(rt: HostRuntime) -> Result<(), Fail> {
+    let alloc = rt.alloc();
+    let anchor = with_runs(alloc).ok_or("memory")?;
     assert_eq!(rt;
-        written_has(rt.alloc()),
+        written_has(alloc, &anchor),
         Some(Some((0, 0x0102030405060708, 2)))
     );
+    assert_eq!(rt; runs_read(alloc), Some((2, 5, 300, 165)));
+    Ok(())
 }
 
 // Writes the anchor of the next number behind the newest, which has this page and number.
@@ -238,7 +278,15 @@ fn page_and_cost(alloc: Global, number: u32) -> Option<(u32, u32)> {
 
 #[test]
 fn each_anchor_has_the_next_page_of_two_blocks(rt: HostRuntime) {
-    for (number, page, next) in [(1, 0, 1), (32, 31, 2), (33, 32, 1), (64, 63, 2), (65, 0, 1)] {
+    let cases = [
+        (1, 0, 1),
+        (2, 1, 1),
+        (32, 31, 2),
+        (33, 32, 1),
+        (64, 63, 2),
+        (65, 0, 1),
+    ];
+    for (number, page, next) in cases {
         assert_eq!(rt;
             page_and_cost(rt.alloc(), number),
             Some((page, next)),
@@ -280,6 +328,7 @@ fn with_cut(
 fn a_cut_write_leaves_the_old_or_the_given(rt: HostRuntime) {
     let cases = [
         (1, 1, Outcome::None, 1, 1),
+        (1, 1, Outcome::Part, 1, 2),
         (1, 1, Outcome::Mix, 1, 2),
         (1, 1, Outcome::All, 2, 2),
         (32, 1, Outcome::Mix, 32, 32),
@@ -315,4 +364,17 @@ fn a_failed_write_leaves_the_old_or_the_given(rt: HostRuntime) {
             Some((fault, number, next))
         );
     }
+}
+
+// What a search for the newest answers without power.
+fn without_power(alloc: Global) -> Option<FlashFault> {
+    let mut nand = with_anchor(alloc, &plain(alloc, 1))?;
+    nand.plan_cut(1, Outcome::None);
+    let _ = write_next(alloc, &mut nand)?;
+    newest(alloc, &mut nand).err()
+}
+
+#[test]
+fn a_flash_without_power_answers_off(rt: HostRuntime) {
+    assert_eq!(rt; without_power(rt.alloc()), Some(FlashFault::Off));
 }

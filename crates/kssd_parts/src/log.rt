@@ -358,26 +358,37 @@ fn found_in(alloc: Global, pages: &[Written]) -> Option<Found> {
     found(alloc, &mut nand, 2, 1)
 }
 
-// What a scan finds of a group in page 64 and behind it a page of number 2 with one entry.
-fn found_behind(alloc: Global, kind: u8, flags: u8, index: u32) -> Option<Found> {
-    let mut second = made(65, flags, 2);
-    second.head.kind = kind;
-    second.head.index = index;
-    second.entries = 1;
+// What a scan finds of a group in page 64 and behind it a page of this head and so many entries.
+fn found_behind(alloc: Global, head: PageHead, entries: u16) -> Option<Found> {
+    let second = Written {
+        place: 65,
+        head,
+        first: 0,
+        entries,
+    };
     found_in(alloc, &[made(64, 1, 1), second])
 }
 
 #[test]
 fn a_page_behind_the_log_ends_it_or_is_damaged(rt: HostRuntime) {
+    // Kind, flags, number and index of the page, and its entries.
     let cases = [
-        (3, 0, 0, Ok((1, 2, 2))),
-        (2, 0, 0, Ok((1, 2, 3))),
-        (2, 3, 0, Err(ScanFault::Bad(65))),
-        (2, 1, 1, Err(ScanFault::Bad(65))),
-        (2, 2, 0, Err(ScanFault::Bad(65))),
+        (2, 1, 3, 0, 1, Ok((1, 2, 2))),
+        (3, 0, 2, 0, 1, Ok((1, 2, 2))),
+        (2, 0, 2, 0, 1, Ok((1, 2, 3))),
+        (2, 2, 2, 0, 0, Ok((1, 3, 3))),
+        (2, 3, 2, 0, 1, Err(ScanFault::Bad(65))),
+        (2, 1, 2, 1, 1, Err(ScanFault::Bad(65))),
+        (2, 2, 2, 0, 1, Err(ScanFault::Bad(65))),
     ];
-    for (kind, flags, index, wanted) in cases {
-        assert_eq!(rt; found_behind(rt.alloc(), kind, flags, index), Some(wanted));
+    for (kind, flags, number, index, entries, wanted) in cases {
+        let head = PageHead {
+            kind,
+            flags,
+            number,
+            index,
+        };
+        assert_eq!(rt; found_behind(rt.alloc(), head, entries), Some(wanted));
     }
 }
 

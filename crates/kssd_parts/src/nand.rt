@@ -152,3 +152,23 @@ fn an_erase_with_each_plan(rt: HostRuntime) {
         );
     }
 }
+
+// What an erase of a device that was read from an image answers, with power on before it or not.
+fn erase_of_image(alloc: Global, on: bool) -> Option<Result<(), NandFault>> {
+    let file = fresh_file(alloc)?;
+    let mut nand = MemNand::from_image(alloc, file.bytes()).ok()?;
+    if nand.blocks() < 256 {
+        return None;
+    }
+    if on {
+        nand.power_on();
+    }
+    Some(nand.erase(1))
+}
+
+#[test]
+fn a_device_of_an_image_has_no_power_before_power_on(rt: HostRuntime) {
+    for (on, wanted) in [(false, Err(NandFault::Off)), (true, Ok(()))] {
+        assert_eq!(rt; erase_of_image(rt.alloc(), on), Some(wanted));
+    }
+}
