@@ -16,6 +16,8 @@ mod merge;
 #[cfg(test)]
 mod nand;
 #[cfg(test)]
+mod recover;
+#[cfg(test)]
 mod run;
 #[cfg(test)]
 mod table;
