@@ -16,8 +16,14 @@ mod merge;
 #[cfg(test)]
 mod nand;
 #[cfg(test)]
+mod reclaim;
+#[cfg(test)]
 mod recover;
 #[cfg(test)]
 mod run;
 #[cfg(test)]
 mod table;
+#[cfg(test)]
+mod tx;
+#[cfg(test)]
+mod values;

@@ -46,6 +46,13 @@ impl Reclaim {
         })
     }
 
+    /// The block that is collected.
+    pub fn block(&self) -> u16
+        ensures { result ≡ block_of self.now }
+    {
+        self.block
+    }
+
     // The next page to be copied.
     fn next_source(&self, values: &Values) -> Option<u32>
         requires { IsValueBlock (device_of values.now) (block_of self.now) }
