@@ -11,12 +11,24 @@ use kv_nand::{FlashFault, Nand};
 use std::alloc::Global;
 
 /// A run that is read page by page, or nothing in place of one.
-#[derive(Debug, Drop)]
+#[derive(Debug)]
 pub struct RunReader {
     run: Option<Run>,
     page: Entries,
     passed: usize,
     next: u32,
+}
+
+// One call wherever it is dropped.
+impl Drop for RunReader {
+    fn drop(self) {
+        let RunReader {
+            run: _,
+            page: _,
+            passed: _,
+            next: _,
+        } = self;
+    }
 }
 
 impl RunReader {

@@ -33,9 +33,16 @@ pub const MAX_RUNS: usize = 6;
 
 /// Entries in memory and those of at most six runs, read as one: for each key the newest, deletion
 /// marks too.
-#[derive(Debug, Drop)]
+#[derive(Debug)]
 pub struct Stream {
     nest: Two<Listed, SixRuns>,
+}
+
+// One call wherever it is dropped.
+impl Drop for Stream {
+    fn drop(self) {
+        let Stream { nest: _ } = self;
+    }
 }
 
 impl Stream {

@@ -9,11 +9,22 @@ use kv_nand::{FlashFault, Nand};
 use std::alloc::Global;
 
 /// Two sources that are read as one: for each key the newer entry, deletion marks too.
-#[derive(Debug, Drop)]
+#[derive(Debug)]
 pub struct Two<A, B> {
     newer: A,
     older: B,
     next: Option<Entry>,
+}
+
+// One call wherever it is dropped, however deep the sources are nested.
+impl<A: Drop, B: Drop> Drop for Two<A, B> {
+    fn drop(self) {
+        let Two {
+            newer: _,
+            older: _,
+            next: _,
+        } = self;
+    }
 }
 
 impl<A: Ordered + Drop, B: Ordered + Drop> Two<A, B> {

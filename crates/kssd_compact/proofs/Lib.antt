@@ -1,0 +1,6 @@
+pub mod TakenOn
+pub mod Sizes
+pub mod Jobs
+pub mod Beginning
+pub mod Merely
+pub mod Starts
