@@ -1,0 +1,4 @@
+pub mod Entries
+pub mod Touching
+pub mod Fitting
+pub mod Faults

@@ -1,0 +1,5 @@
+use Rattle.kfs_cache.proofs.Faults.{end_left}
+use Rattle.kfs_cache.proofs.cached.CachedDevice.end.Goals as goal
+
+pub invariant_of-self-in-Err : goal.invariant_of-self-in-Err
+invariant_of-self-in-Err g c = record { fits = c.fail.ensures (g.D.Device.machine c.args.self.now.device) (g.D.Device.machine c.end.new.self) c.args.self.now.fits (end_left _ c.args.tx.0 _ _ c.in-Err.ensures.err) }
