@@ -1,0 +1,4 @@
+pub mod Naming
+pub mod Standing
+pub mod Falling
+pub mod Transacting

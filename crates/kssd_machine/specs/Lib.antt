@@ -1,0 +1,4 @@
+pub mod Names
+pub mod Machines
+pub mod Faults
+pub mod Calling
