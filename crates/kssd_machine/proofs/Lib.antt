@@ -2,3 +2,4 @@ pub mod Naming
 pub mod Standing
 pub mod Falling
 pub mod Transacting
+pub mod Seeing

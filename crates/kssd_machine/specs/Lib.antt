@@ -2,3 +2,4 @@ pub mod Names
 pub mod Machines
 pub mod Faults
 pub mod Calling
+pub mod Viewing

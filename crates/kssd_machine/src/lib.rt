@@ -4,6 +4,8 @@
 
 mod calls;
 mod machines;
+mod viewing;
 
 pub use calls::{outside_causes_agree, refusals_agree, transactions_agree};
 pub use machines::{faults_agree, machine_stays};
+pub use viewing::{gets_are_views, iterates_are_views};
