@@ -3,3 +3,5 @@ pub mod Machines
 pub mod Faults
 pub mod Calling
 pub mod Viewing
+pub mod Sizes
+pub mod Ending
