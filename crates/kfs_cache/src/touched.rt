@@ -6,7 +6,10 @@ use kv_base::{Key, Memory};
 use kv_device::KeyMap;
 use std::alloc::Global;
 
-/// The keys that open transactions may have changed: these, or all where memory for one was missing.
+// As many keys as all transactions can have changed. A key past them was refused by the device.
+const MOST_KEYS: usize = 1280;
+
+/// The keys that open transactions may have changed: these, or all where there was no room for one.
 #[derive(Drop)]
 pub struct Touched {
     alloc: Global,
@@ -40,7 +43,7 @@ impl Touched {
         ensures added { is_touched self.new key.now ≡ true }
         ensures others { (other : List ℕ) → is_touched self.old other ≡ true → is_touched self.new other ≡ true }
     {
-        if self.insert(alloc, key).is_err() {
+        if self.keys.len() >= MOST_KEYS || self.insert(alloc, key).is_err() {
             self.all = true;
         }
     }

@@ -9,8 +9,8 @@ fn key(alloc: Global, name: &[u8]) -> Option<Key> {
     Key::new(alloc, name).ok()
 }
 
-fn pair(alloc: Global, name: &[u8]) -> Option<Pair> {
-    let value = Value::new(alloc, name).ok()?;
+pub fn pair(alloc: Global, name: &[u8], bytes: &[u8]) -> Option<Pair> {
+    let value = Value::new(alloc, bytes).ok()?;
     Some(Pair {
         key: key(alloc, name)?,
         value,
@@ -18,9 +18,9 @@ fn pair(alloc: Global, name: &[u8]) -> Option<Pair> {
 }
 
 // Begins, sets, reads and ends in one transaction, and works and looks in another.
-fn commands(alloc: Global) -> Option<Vec<Command>> {
+pub fn commands(alloc: Global) -> Option<Vec<Command>> {
     let tx = TxId(0);
-    let Pair { key: name, value } = pair(alloc, b"k")?;
+    let Pair { key: name, value } = pair(alloc, b"k", b"k")?;
     let mut commands = Vec::new(alloc);
     commands.push(Command::Begin).ok()?;
     commands
@@ -63,7 +63,7 @@ fn looks(alloc: Global, tx: TxId) -> Option<Vec<Command>> {
 }
 
 // One letter for an answer.
-fn letter(answer: &Result<Reply, DeviceFault>) -> u8 {
+pub fn letter(answer: &Result<Reply, DeviceFault>) -> u8 {
     match answer {
         Ok(Reply::Begun(_)) => b'b',
         Ok(Reply::Got(Some(_))) => b'v',
@@ -114,7 +114,7 @@ fn put(
     gone: &[u8],
 ) -> Option<Result<(), DeviceFault>> {
     device.restart();
-    let (first, second) = (pair(alloc, b"k1")?, pair(alloc, other)?);
+    let (first, second) = (pair(alloc, b"k1", b"k1")?, pair(alloc, other, other)?);
     Some(exchange(alloc, device, &first, &second, &key(alloc, gone)?))
 }
 
