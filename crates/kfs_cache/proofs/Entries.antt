@@ -1,6 +1,5 @@
 -- The entries of a cache, read as a map.
-use Rattle.std.proofs.Common.{◌≡◌, ℕ, arith, length, Bool, true, false, cond, refl, sym, ◌∙◌, ap, subst, List, [], ◌∷◌, map, take, zero, suc, ◌-◌, nat_eq, Option, Some, None}
-use Rattle.std.specs.Ordering.{eq_by_cmp}
+use Rattle.std.proofs.Common.{◌≡◌, ℕ, arith, length, Bool, true, false, cond, refl, sym, ◌∙◌, ap, List, [], ◌∷◌, map, take, zero, suc, ◌-◌, nat_eq, Option, Some, None}
 use Rattle.std.specs.Cmp.{IsEquivalence, on_equiv}
 use Rattle.std.specs.Cmp.Lexicographic.{pointwise, bytes_decides, texts_ties, nat_list_eq_equiv, nat_list_cmp_total}
 use Rattle.std.specs.List.{IsDistinct, AllByRecursion}

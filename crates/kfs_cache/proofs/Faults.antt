@@ -1,7 +1,7 @@
 -- What each fault of a device leaves.
-use Rattle.std.proofs.Common.{◌≡◌, ◌⊎◌, inl, inr, ℕ, true, false, refl, sym, ◌∙◌, ap, List, Option, Some, None, Result, Ok, Err, OnOk, IfErr, is_some, is_none, position, cond, not, Bool}
+use Rattle.std.proofs.Common.{◌≡◌, inl, inr, ℕ, false, refl, ◌∙◌, ap, List, Option, Some, None}
 use Rattle.std.specs.FinMap as objects
-use Rattle.kv_device.specs.Machine.{Machine, view, down, none_open, is_open}
+use Rattle.kv_device.specs.Machine.{Machine, view}
 use Rattle.kv_device.specs.declared.fault.DeviceFault.{DeviceFault}
 use Rattle.kv_device.specs.declared.fault.DeviceFault.TheVariants.{NoTx, Busy, TxFull, Full, BadSize, Off, Failed, Memory}
 use Rattle.kv_device.specs.Calls.{IsFault, Never, FallsReading, Falls, FallsEnding, BeginFault, ReadFault, SetFault, DeleteFault, EndFault, AbortFault, WorkFault, begin_refusal, first_of, set_refusal, delete_refusal, off_refusal}

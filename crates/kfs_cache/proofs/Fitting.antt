@@ -1,5 +1,5 @@
 -- What a cache knows stays true of its device.
-use Rattle.std.proofs.Common.{◌≡◌, ◌≢◌, ◌<◌, ◌⊎◌, inl, inr, ℕ, ◌||◌, Bool, true, false, not, cond, refl, sym, ◌∙◌, ap, subst, List, [], ◌∷◌, map, length, zero, suc, set, Option, Some, None, Result, Ok, Err, OnOk, OnErr, IfSome, is_some, is_none, unwrap_or, option_and_then, slice_get, slice_set, position, arith, nat_eq}
+use Rattle.std.proofs.Common.{◌≡◌, ◌≢◌, ◌<◌, ◌⊎◌, inl, inr, ℕ, Bool, true, false, not, cond, refl, sym, ◌∙◌, ap, subst, List, [], ◌∷◌, map, length, zero, suc, Option, Some, None, Result, Ok, Err, OnOk, OnErr, IfSome, is_some, is_none, unwrap_or, option_and_then, slice_get, slice_set}
 use Rattle.std.proofs.lemmas.List.{map-set}
 use Rattle.std.proofs.lemmas.Option.{slice_get-get_or}
 use Rattle.std.proofs.Math.Seq.{map-set_same}
@@ -7,20 +7,20 @@ use Rattle.std.proofs.lemmas.List.Quantifiers.{position-Some}
 use Rattle.std.proofs.lemmas.Bool.Decides.{eqb_tells}
 use Rattle.std.specs.List.{list_any}
 use Rattle.std.specs.Ordering.{eq_by_cmp}
-use Rattle.std.specs.Cmp.Lexicographic.{pointwise, bytes_decides, texts_ties, nat_list_cmp_total}
+use Rattle.std.specs.Cmp.Lexicographic.{bytes_decides, texts_ties, nat_list_cmp_total}
 use Rattle.std.specs.FinMap as objects
 use Rattle.kv_device.specs.Bytes.{bytes_cmp}
-use Rattle.kv_device.specs.Objects.{Objects, Changes, seen_through}
+use Rattle.kv_device.specs.Objects.{Objects, Changes}
 use Rattle.kv_device.specs.Machine.{Machine, Transactions, changes_of, is_open, free_number, view, none_open, begun, with_change, ended, aborted}
-use Rattle.kv_device.specs.Calls.{GetDone, first_of}
+use Rattle.kv_device.specs.Calls.{GetDone}
 use Rattle.kv_device.specs.declared.fault.DeviceFault.{DeviceFault}
 use Rattle.kv_device.specs.declared.fault.DeviceFault.TheVariants.{Off, NoTx}
-use Rattle.kv_device.proofs.OpenLaws.{changes_set, changes_of-begun, open_within}
+use Rattle.kv_device.proofs.OpenLaws.{changes_set, open_within}
 use Rattle.kv_device.proofs.ApartLaws.{changes_stay}
 use Rattle.kv_device.proofs.MachineLaws.{get-seen_through, over}
 use Rattle.kfs_cache.specs.declared.known.Known.{Known}
 use Rattle.kfs_cache.specs.declared.touched.Touched.{Touched}
-use Rattle.kfs_cache.specs.Numbers.{is_marked, is_outside}
+use Rattle.kfs_cache.specs.Numbers.{is_marked}
 use Rattle.kfs_cache.specs.Parts.{IsPart}
 use Rattle.kfs_cache.specs.Knowing.{Fits, FellDown, Left, is_changed, is_touched}
 

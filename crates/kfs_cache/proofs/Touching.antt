@@ -1,9 +1,8 @@
 -- Which keys are touched.
 use Rattle.std.proofs.Common.{◌≡◌, ℕ, ◌||◌, Bool, true, false, cond, refl, ◌∙◌, sym, ap, List, Some, is_some}
 use Rattle.std.specs.Ordering.{eq_by_cmp}
-use Rattle.std.specs.Cmp.Lexicographic.{pointwise, bytes_decides, texts_ties, nat_list_cmp_total}
+use Rattle.std.specs.Cmp.Lexicographic.{bytes_decides, texts_ties, nat_list_cmp_total}
 use Rattle.std.specs.FinMap as objects
-use Rattle.std.specs.Prelude.{nat_eq}
 use Rattle.kv_device.specs.Bytes.{bytes_cmp}
 
 itself : (key : List ℕ) → eq_by_cmp bytes_cmp key key ≡ true

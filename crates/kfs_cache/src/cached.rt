@@ -8,8 +8,8 @@ use kv_base::{Key, Memory, Pairs, Value};
 use kv_device::{Device, DeviceFault, PlannedDevice, TxId};
 use std::alloc::Global;
 
-/// A device, and some of its stable values. It is that device to its callers. A look-up that finds
-/// its value here asks the device for nothing.
+/// A device, and some of its stable values in memory. It is that device to its callers, but doesn't
+/// ask it for a value that is kept.
 #[derive(Drop)]
 pub struct Cached<D: Device> {
     device: D,

@@ -37,7 +37,7 @@ impl Known {
         })
     }
 
-    /// What the transaction sees at a key, where that is kept.
+    /// What the transaction sees at a key, where that is kept and the transaction is open.
     pub fn value(&mut self, alloc: Global, tx: TxId, key: &Key) -> Option<Value>
         ensures hit { IfSome result (λ value. (m : Machine) → Fits m self.old → GetDone m tx.0 key.now (Some value) m) }
         ensures same { self.new ≡ self.old }
@@ -51,7 +51,8 @@ impl Known {
         }
     }
 
-    /// Keeps what a transaction saw at a key, unless one may have changed it.
+    /// Keeps what a transaction saw at a key, unless one that is open may have changed that key. For want
+    /// of memory it isn't kept.
     pub fn keep(&mut self, alloc: Global, key: &Key, value: &Value)
         ensures { (m : Machine) (tx : ℕ) → Fits m self.old → objects.get (view m tx) key.now ≡ Some value.now → Fits m self.new }
     {
@@ -60,7 +61,7 @@ impl Known {
         }
     }
 
-    /// A transaction may change a key.
+    /// A transaction is about to change a key, whose value is no longer kept.
     pub fn touch(&mut self, alloc: Global, key: &Key)
         ensures same { (m : Machine) → Fits m self.old → Fits m self.new }
         ensures changed { (m : Machine) (tx : ℕ) (change : Option (List ℕ)) → Fits m self.old → is_open m tx ≡ true → Fits (with_change m tx key.now change) self.new }
@@ -76,7 +77,7 @@ impl Known {
         mark(&mut self.numbers, tx, true);
     }
 
-    /// A transaction is over.
+    /// A transaction is over. Once none is open each key may be kept again.
     pub fn finish(&mut self, tx: TxId)
         ensures ended { (m : Machine) → Fits m self.old → is_open m tx.0 ≡ true → Fits (ended m tx.0) self.new }
         ensures aborted { (m : Machine) → Fits m self.old → is_open m tx.0 ≡ true → Fits (aborted m tx.0) self.new }
@@ -87,7 +88,7 @@ impl Known {
         }
     }
 
-    /// A call was answered so.
+    /// A call was answered so. Behind an outside cause nothing is found any more.
     pub fn fail(&mut self, fault: &DeviceFault)
         ensures { (old new : Machine) → Fits old self.old → Left old fault.now new → Fits new self.new }
     {

@@ -6,7 +6,7 @@ use kv_base::{Key, Memory};
 use kv_device::KeyMap;
 use std::alloc::Global;
 
-// As many keys as all transactions can have changed. A key past them was refused by the device.
+// As many keys as all transactions can have changed at a time. Past them all keys count as changed.
 const MOST_KEYS: usize = 1280;
 
 /// The keys that open transactions may have changed: these, or all where there was no room for one.
