@@ -15,6 +15,7 @@ fn load(alloc: Global, seed: u64, count: u32, blocks: u16) -> Option<Vec<Line>> 
 fn a_load_has_so_many_lines(rt: HostRuntime) {
     let cases = [
         (0, 1, 256, 14),
+        (7, 10, 256, 39),
         (7, 2_000, 256, 4_461),
         (1, 20_000, 2_048, 43_919),
         (u64::MAX, 3, 300, 20),

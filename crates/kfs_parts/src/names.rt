@@ -55,6 +55,7 @@ fn names_are_listed_in_the_order_of_bytes(rt: HostRuntime) {
     let alloc = rt.alloc();
     assert_eq!(&rt; found(alloc, false), Some(Some(3)));
     assert_eq!(&rt; found(alloc, true), Some(None));
+    assert_eq!(&rt; empty(alloc, 1), Some((true, false)));
     assert_eq!(&rt; empty(alloc, 257), Some((true, false)));
     assert!(&rt; listed(alloc).is_some_and(|text| text.as_slice() == b"B|ab|".as_slice()));
 }

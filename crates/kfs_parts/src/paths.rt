@@ -21,9 +21,17 @@ fn is_cut(alloc: Global, bytes: &[u8], wanted: &[u8], trailing: bool) -> bool {
 #[test]
 fn a_path_is_cut_at_slashes(rt: HostRuntime) {
     let alloc = rt.alloc();
-    assert!(&rt; is_cut(alloc, b"a//./b/", b"a|.|b|", true));
-    assert!(&rt; is_cut(alloc, b"/a\0/..", b"a\0|..|", false));
-    assert!(&rt; is_cut(alloc, b"///", b"", true));
+    let rows: [(&[u8], &[u8], bool); 6] = [
+        (b"/a/b", b"a|b|", false),
+        (b"a//./b/", b"a|.|b|", true),
+        (b"..", b"..|", false),
+        (b"///", b"", true),
+        (b"/a\0/c", b"a\0|c|", false),
+        (b"/a\0/..", b"a\0|..|", false),
+    ];
+    for (bytes, wanted, trailing) in rows {
+        assert!(&rt; is_cut(alloc, bytes, wanted, trailing), "{bytes:?}");
+    }
 }
 
 // How many items a list of nodes has after one is added.

@@ -80,7 +80,9 @@ fn counted(alloc: Global) -> Option<(u64, u32, bool, usize)> {
     let (head, weight) = (run.head(), run.weight());
     let falls = run.change(alloc, 256, head.next).ok()?;
     let key = Key::new(alloc, b"k").ok()?;
-    run.get(alloc, &key).ok()??;
+    if run.limits().0 != 100 || run.get(alloc, &key).ok()??.bytes() != b"v".as_slice() {
+        return None;
+    }
     let found = run.iterate(alloc, &key, &key, 9).ok()?.len();
     Some((head.changes, weight, falls, found))
 }
