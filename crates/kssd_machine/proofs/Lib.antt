@@ -6,3 +6,6 @@ pub mod Seeing
 pub mod Weighing
 pub mod Sizing
 pub mod Finishing
+pub mod Tagging
+pub mod Spacing
+pub mod Keeping

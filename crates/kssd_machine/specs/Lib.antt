@@ -5,3 +5,4 @@ pub mod Calling
 pub mod Viewing
 pub mod Sizes
 pub mod Ending
+pub mod Marked
