@@ -11,3 +11,4 @@ pub mod Free
 pub mod Keeping
 pub mod Spare
 pub mod Staying
+pub mod OneRun

@@ -5,6 +5,7 @@ pub mod Two
 pub mod TwoLaws
 pub mod First
 pub mod Written
+pub mod Alone
 pub mod Sound
 pub mod Levels
 pub mod Over

@@ -1,0 +1,12 @@
+pub mod Anchored
+pub mod Beginning
+pub mod Counting
+pub mod Steps
+pub mod NewBase
+pub mod ShownBase
+pub mod Composing
+pub mod Looking
+pub mod Places
+pub mod Runs
+pub mod Logs
+pub mod Appending

@@ -1,0 +1,6 @@
+use Rattle.std.proofs.Common.{◌≡◌, length, take}
+use Rattle.kssd_model.specs.Rising.{merged}
+use Rattle.kssd_index.proofs.append.put_all.Given as goal
+
+abbrev pub invariant-loop-entry : goal.invariant-loop-entry
+invariant-loop-entry l = l.table ≡ merged (take l.entry-index l.entry-items) l.initial.table

@@ -1,0 +1,14 @@
+use Rattle.std.proofs.Common.{◌≡◌, ◌++◌, length}
+use Rattle.kssd_model.specs.OnlyReading.{OnlyReads}
+use Rattle.kssd_image.specs.Stages.{without_marks}
+use Rattle.kssd_index.proofs.reading.first_kept.Given as goal
+
+abbrev pub invariant-entries : goal.invariant-entries
+invariant-entries g l = record {
+  stands : g.S.Ordered.stands l.source (g.N.Nand.flash l.fn.nand).blocks (g.N.Nand.flash l.fn.nand).image;
+  reads : OnlyReads (g.N.Nand.flash l.fn.nand) (g.N.Nand.flash l.nand);
+  left : without_marks (g.S.Ordered.rest l.fn.source (g.N.Nand.flash l.fn.nand).image) ≡ l.found ++ without_marks (g.S.Ordered.rest l.source (g.N.Nand.flash l.fn.nand).image);
+}
+
+abbrev pub decreases-entries : goal.decreases-entries
+decreases-entries g l = length (g.S.Ordered.rest l.source (g.N.Nand.flash l.fn.nand).image)

@@ -1,0 +1,14 @@
+//! The index of a device: the newest anchor, the runs that it names, and the log with its table.
+//! Together they map each key to its newest entry.
+#![tactic(auto)]
+
+mod anew;
+mod append;
+mod base;
+mod index;
+mod parts;
+mod place;
+mod reading;
+
+pub use index::Index;
+pub use parts::IndexParts;

@@ -1,0 +1,149 @@
+// Making place for a group, and beginning after a mount.
+ghost use Rattle.std.specs.Prelude.{◌≡◌, ◌-◌, max};
+ghost use Rattle.std.specs.List.{AllByRecursion};
+ghost use Rattle.kssd_entry.specs.Spelling.{FitsEntry};
+
+use crate::anew::{begin_anew, write_shown};
+use crate::{Index, IndexParts};
+use kssd_entry::Entries;
+use kssd_log::Ring;
+use kssd_model::Anchor;
+use kssd_table::Table;
+use kv_base::Memory;
+use kv_nand::{FlashFault, Nand};
+use std::alloc::Global;
+
+// The greatest number of an anchor and of a log before this number, where each run has a lower
+// number than the next.
+fn greatest_number(anchor: &Anchor, next_seq: u64) -> u64
+    ensures { result ≡ max (max anchor.now.number (max anchor.now.next_run anchor.now.log_seq)) (next_seq - 1) }
+{
+    anchor
+        .number
+        .max(anchor.next_run.max(anchor.log_seq))
+        .max(next_seq.saturating_sub(1))
+}
+
+// Reads how large entries are: each fits a page many times.
+fn read_sizes(entries: &Entries)
+    ensures { AllByRecursion FitsEntry entries.now }
+{
+    for entry in entries.as_slice() {
+        entry.size();
+    }
+}
+
+impl Index {
+    ghost use Rattle.std.specs.Prelude.{◌≡◌, ◌≤◌, ◌<◌, ◌+◌, ◌^◌, ℕ, true, length, IfOk, OnOk, OnErr, IfErr};
+    ghost use Rattle.kv_nand.specs.Flash.{Image};
+    ghost use Rattle.kv_nand.specs.Working.{Works, Stops};
+    ghost use Rattle.kssd_model.specs.Groups.{turn_count};
+    ghost use Rattle.kssd_model.specs.Rising.{is_rising};
+    ghost use Rattle.kssd_image.specs.Whole.{age_in};
+    ghost use Rattle.kssd_index.specs.Standing.{IsIndex, AreParts, IsFit, is_clean, index_age, log_by};
+    ghost use Rattle.kssd_index.specs.Mapping.{IsKept};
+    ghost use Rattle.kssd_index.specs.Costs.{has_place_in, most_place_cost};
+
+    /// The index of these parts, where the block in which the log begins is clean. Nothing is wrong
+    /// with the anchor's own fields.
+    pub fn open(alloc: Global, parts: IndexParts) -> Result<Index, Memory>
+        requires clean { is_clean parts ≡ true }
+        requires fit { IsFit parts }
+        ensures stands { IfOk result (λ index. (blocks : ℕ) (image : Image) → AreParts parts blocks image → IsIndex index blocks image) }
+        ensures age { IfOk result (λ index. (blocks : ℕ) (image : Image) → AreParts parts blocks image → index_age index ≡ age_in image) }
+    {
+        let ring = Ring::at(parts.anchor.log_block, parts.anchor.log_seq);
+        let table = Table::new(alloc)?;
+        let age = greatest_number(&parts.anchor, parts.next_seq);
+        Ok(Index {
+            layout: parts.layout,
+            page: parts.page,
+            anchor: parts.anchor,
+            levels: parts.levels,
+            table,
+            ring,
+            age,
+        })
+    }
+
+    /// The index of these parts, whose log is merged with the runs into one run. A new log begins,
+    /// in the ring block behind the last, erased before, and an anchor names that run alone.
+    pub fn settle<N: Nand>(
+        alloc: Global,
+        nand: &mut N,
+        parts: IndexParts,
+    ) -> Result<Index, FlashFault>
+        requires parts { AreParts parts (N.flash nand.old).blocks (N.flash nand.old).image }
+        requires few { turn_count (log_by (N.flash nand.old).image parts).pages ≤ 15 }
+        requires number { age_in (N.flash nand.old).image < 2 ^ 62 }
+        ensures stands { IfOk result (λ index. IsIndex index (N.flash nand.new).blocks (N.flash nand.new).image) }
+        ensures kept { IsKept (N.flash nand.old).blocks (N.flash nand.old).image (N.flash nand.new).image }
+        ensures aged { age_in (N.flash nand.new).image ≤ age_in (N.flash nand.old).image + 1 }
+        ensures age { IfOk result (λ index. index_age index ≤ age_in (N.flash nand.old).image + 1) }
+        ensures works { OnOk result (Works (N.flash nand.old) (N.flash nand.new) (most_place_cost (N.flash nand.old).blocks) (2 ^ 64)) }
+        ensures stops { IfErr result (λ fault. Stops (N.flash nand.old) fault (N.flash nand.new) (most_place_cost (N.flash nand.old).blocks) (2 ^ 64)) }
+    {
+        let run = write_shown(
+            alloc,
+            nand,
+            parts.layout,
+            &parts.levels,
+            parts.log.entries(),
+            parts.anchor.next_run,
+        )?;
+        let index = begin_anew(
+            alloc,
+            nand,
+            parts.layout,
+            parts.page,
+            &parts.anchor,
+            run,
+            parts.last_block,
+            parts.next_seq,
+        )?;
+        Ok(index)
+    }
+
+    /// Makes place for a group of these entries. The visible entries stay, also after a fault.
+    pub fn make_place<N: Nand>(
+        &mut self,
+        alloc: Global,
+        nand: &mut N,
+        entries: &Entries,
+    ) -> Result<(), FlashFault>
+        requires stands { IsIndex self.old (N.flash nand.old).blocks (N.flash nand.old).image }
+        requires size { length entries.now ≤ 640 }
+        requires rising { is_rising entries.now ≡ true }
+        requires number { index_age self.old < 2 ^ 62 }
+        ensures stands { OnOk result (IsIndex self.new (N.flash nand.new).blocks (N.flash nand.new).image) }
+        ensures place { OnOk result (has_place_in self.new entries.now ≡ true) }
+        ensures kept { IsKept (N.flash nand.old).blocks (N.flash nand.old).image (N.flash nand.new).image }
+        ensures aged { age_in (N.flash nand.new).image ≤ index_age self.new }
+        ensures ages { index_age self.new ≤ index_age self.old + 2 ^ 8 }
+        ensures works { OnOk result (Works (N.flash nand.old) (N.flash nand.new) (most_place_cost (N.flash nand.old).blocks) (2 ^ 64)) }
+        ensures stops { IfErr result (λ fault. Stops (N.flash nand.old) fault (N.flash nand.new) (most_place_cost (N.flash nand.old).blocks) (2 ^ 64)) }
+    {
+        read_sizes(entries);
+        self.age += 1;
+        let run = write_shown(
+            alloc,
+            nand,
+            self.layout,
+            &self.levels,
+            self.table.entries(),
+            self.anchor.next_run,
+        )?;
+        let index = begin_anew(
+            alloc,
+            nand,
+            self.layout,
+            self.page,
+            &self.anchor,
+            run,
+            self.ring.block(),
+            self.ring.seq(),
+        )?;
+        *self = index;
+        Ok(())
+    }
+}
