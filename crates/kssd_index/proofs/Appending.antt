@@ -117,7 +117,7 @@ grown index blocks old entries new turns end next h outside log few fits =
           (keys_with groups index.table entries 2048 (table_was index blocks old h.stands) (omega (arith, n.table)));
     } in
     let was = shown_is index.page anchor old h.stands.anchored.newest in
-    let grows = ring_grows index.page anchor blocks old entries new [] next h.stands.anchored outside now h.rising
+    let grows = ring_grows index.page anchor blocks old entries new [] next h.stands.anchored outside now
     (subst (λ (es : List Entry). length (with_entries es entries) ≤ max_keys_in blocks) was h.keys)
     (subst (λ (es : List Entry). length (pages_named (with_entries es entries)) ≤ max_pages_in blocks) was h.pages) in
     record {

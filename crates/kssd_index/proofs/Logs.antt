@@ -114,10 +114,10 @@ pub record GrowsBy (page : ℕ) (anchor : Anchor) (blocks : ℕ) (old : Image) (
   pub age_is : age_by new anchor ≡ max (anchor_age anchor) (next - 1)
 
 pub ring_grows : (page : ℕ) (anchor : Anchor) (blocks : ℕ) (old : Image) (entries : List Entry) (new : Image) (rest : List Entry) (next : ℕ) → IsAnchored page anchor blocks old → StaysOutside old new
-    → IsLogNow anchor new (groups_by old anchor ++ entries ∷ []) rest next → is_rising entries ≡ true
+    → IsLogNow anchor new (groups_by old anchor ++ entries ∷ []) rest next
     → length (with_entries (shown_by old anchor) entries) ≤ max_keys_in blocks → length (pages_named (with_entries (shown_by old anchor) entries)) ≤ max_pages_in blocks
     → GrowsBy page anchor blocks old entries new next
-ring_grows page anchor blocks old entries new rest next h outside now rising keys pages =
+ring_grows page anchor blocks old entries new rest next h outside now keys pages =
     let groups = groups_by old anchor ++ entries ∷ [] in
     let runs = runs_map old anchor.runs in
     let table : table_of new anchor ≡ merged entries (table_of old anchor) =
@@ -128,7 +128,7 @@ ring_grows page anchor blocks old entries new rest next h outside now rising key
     let all : merged_by new anchor ≡ merged entries (merged_by old anchor) =
     merged_is blocks anchor old new h.index.form outside
     ∙ ap (λ (es : List Entry). merged es runs) table
-    ∙ merge_three entries (table_of old anchor) runs rising (log_rises old (32 * anchor.log_block) anchor.log_seq) (runs_rise old anchor.runs)
+    ∙ merge_three entries (table_of old anchor) runs (log_rises old (32 * anchor.log_block) anchor.log_seq) (runs_rise old anchor.runs)
     ∙ ap (merged entries) (sym (merged_was old anchor)) in
     let shown : shown_by new anchor ≡ with_entries (shown_by old anchor) entries =
     shown_was new anchor ∙ ap without_marks all

@@ -16,7 +16,7 @@ use Rattle.kssd_run.specs.Run.{run_info}
 use Rattle.kssd_run.proofs.RunBlocks.{first_run_blocks}
 use Rattle.kssd_levels.specs.declared.levels.Levels.{Levels}
 use Rattle.kssd_levels.specs.Levels.{device_of, named_blocks, free_blocks_of}
-use Rattle.kssd_levels.proofs.Spare.{counted}
+use Rattle.kssd_levels.proofs.Spare.{job_blocks_suffice}
 use Rattle.kssd_frames.proofs.Places.{run_is_behind}
 use Rattle.kssd_index.specs.Writing.{IsBase, StaysBeside}
 use Rattle.kssd_index.specs.Anew.{IsBaseOf, KeepsNamed}
@@ -24,8 +24,7 @@ use Rattle.kssd_index.proofs.Runs.{in_region}
 
 pub enough_free : (layout : Layout) (levels : Levels) → device_of levels ≡ layout.blocks → layout.base_blocks ≤ length (free_blocks_of levels)
 enough_free layout levels device =
-    let h = counted levels in
-    omega (arith, h.free, h.named, h.one_most, h.base_most, levels.sound.zero_few, layout.exact.base, layout.exact.least, device)
+    omega (arith, (job_blocks_suffice levels).whole, layout.exact.base, ap base_blocks_in device)
 
 some_pages : (f : ℕ → List Entry) (n : ℕ) → 0 < length (joined f n) → 1 ≤ n
 some_pages f zero h = absurd (omega arith)
