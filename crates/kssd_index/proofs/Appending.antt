@@ -57,7 +57,7 @@ pub record IsPlaced (index : Index) (blocks : ℕ) (image : Image) (entries : Li
   pub place : has_place_in index entries ≡ true
   pub keys : length (with_entries (shown_in image) entries) ≤ max_keys_in blocks
   pub pages : length (pages_named (with_entries (shown_in image) entries)) ≤ max_pages_in blocks
-  pub low : index.age < 2 ^ 62
+  pub low : index.age < 2 ^ 63 - 2 ^ 38
 
 pub record HasNumbers (index : Index) (image : Image) (entries : List Entry) : Type 0 where
   pub room : pages_of entries ≤ room_of index.ring
@@ -82,7 +82,7 @@ has_numbers index blocks image entries h =
       most = turns.1;
     }
 
-pub number_low : (index : Index) (blocks : ℕ) (image : Image) → IsIndex index blocks image → index.age < 2 ^ 62 → index.ring.seq < 2 ^ 63
+pub number_low : (index : Index) (blocks : ℕ) (image : Image) → IsIndex index blocks image → index.age < 2 ^ 63 - 2 ^ 38 → index.ring.seq < 2 ^ 63
 number_low index blocks image h low = omega (arith, h.numbers, h.log.number)
 
 -- ---- keys

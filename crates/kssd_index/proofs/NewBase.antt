@@ -246,7 +246,7 @@ pub record IsBegun (page : ℕ) (anchor next : Anchor) (run : Run) (levels : Lev
   pub alone : IsAlone blocks run levels
   pub seq_is : next.log_seq ≡ (log_of old anchor).next
 
-pub seq_low : (anchor : Anchor) (image : Image) → age_by image anchor < 2 ^ 62 → (log_of image anchor).next < 2 ^ 63
+pub seq_low : (anchor : Anchor) (image : Image) → age_by image anchor < 2 ^ 63 - 2 ^ 38 → (log_of image anchor).next < 2 ^ 63
 seq_low anchor image low = omega (arith, low)
 
 pub last_in_ring : (page : ℕ) (anchor : Anchor) (blocks : ℕ) (image : Image) (last : ℕ) → IsAnchored page anchor blocks image → last ≡ (log_of image anchor).end / 32 → (2 ≤ last) × (last ≤ 19)
@@ -263,7 +263,7 @@ clean_from flash block seq h q at = elim (cases_lt (32 * block) q) [
 
 pub is_begun : (page : ℕ) (anchor next : Anchor) (run : Run) (levels : Levels) (blocks : ℕ) (old : Image) (ready : Flash) (last : ℕ) → HasBytes old → IsAnchored page anchor blocks old
     → IsBaseOf run anchor.next_run (shown_by old anchor) blocks old → IsAlone blocks run levels → MayName (Rattle.kssd_levels.specs.Levels.device_of levels) (infos_of levels)
-    → last ≡ (log_of old anchor).end / 32 → turn_count (log_of old anchor).pages ≤ 15 → age_by old anchor < 2 ^ 62
+    → last ≡ (log_of old anchor).end / 32 → turn_count (log_of old anchor).pages ≤ 15 → age_by old anchor < 2 ^ 63 - 2 ^ 38
     → KeepsLogs last old ready.image → StaysOutside old ready.image → IsPlace ready (begun (next_block last) (log_of old anchor).next)
     → next ≡ following anchor (infos_of levels) (next_block last) (log_of old anchor).next
     → IsBegun page anchor next run levels blocks old ready.image
@@ -379,7 +379,7 @@ new_index page place anchor next run levels layout old ready new table ring age 
 
 -- ---- the anchor's spelling
 
-pub spelled : (page : ℕ) (anchor next : Anchor) (run : Run) (levels : Levels) (blocks : ℕ) (old ready : Image) → IsBegun page anchor next run levels blocks old ready → age_by old anchor < 2 ^ 62 → HasSpelling next
+pub spelled : (page : ℕ) (anchor next : Anchor) (run : Run) (levels : Levels) (blocks : ℕ) (old ready : Image) → IsBegun page anchor next run levels blocks old ready → age_by old anchor < 2 ^ 63 - 2 ^ 38 → HasSpelling next
 spelled page anchor next run levels blocks old ready h low =
     let r = h.ready_is in
     let number : next.number ≡ anchor.number + 1 = ap (λ (a : Anchor). a.number) r.follows in
@@ -403,7 +403,7 @@ can_follow page anchor next run levels blocks old ready h =
 
 -- ---- the ring's block is erased or half erased
 
-pub ring_left : (page : ℕ) (anchor : Anchor) (blocks : ℕ) (old new : Image) (last : ℕ) → HasBytes old → IsAnchored page anchor blocks old → last ≡ (log_of old anchor).end / 32 → turn_count (log_of old anchor).pages ≤ 15 → age_by old anchor < 2 ^ 62
+pub ring_left : (page : ℕ) (anchor : Anchor) (blocks : ℕ) (old new : Image) (last : ℕ) → HasBytes old → IsAnchored page anchor blocks old → last ≡ (log_of old anchor).end / 32 → turn_count (log_of old anchor).pages ≤ 15 → age_by old anchor < 2 ^ 63 - 2 ^ 38
     → KeepsLogs last old new → StaysOutside old new → IsKeptAt blocks old new (age_by old anchor + 1)
 ring_left page anchor blocks old new last has h at few low keeps outside =
     let k = log_kept page anchor blocks old new last has h (sym at) few (omega (arith, seq_low anchor old low)) keeps outside in

@@ -34,7 +34,7 @@ fn read_sizes(entries: &Entries)
 }
 
 impl Index {
-    ghost use Rattle.std.specs.Prelude.{◌≡◌, ◌≤◌, ◌<◌, ◌+◌, ◌^◌, ℕ, true, length, IfOk, OnOk, OnErr, IfErr};
+    ghost use Rattle.std.specs.Prelude.{◌≡◌, ◌≤◌, ◌<◌, ◌+◌, ◌-◌, ◌^◌, ℕ, true, length, IfOk, OnOk, OnErr, IfErr};
     ghost use Rattle.kv_nand.specs.Flash.{Image};
     ghost use Rattle.kv_nand.specs.Working.{Works, Stops};
     ghost use Rattle.kssd_model.specs.Groups.{turn_count};
@@ -75,7 +75,7 @@ impl Index {
     ) -> Result<Index, FlashFault>
         requires parts { AreParts parts (N.flash nand.old).blocks (N.flash nand.old).image }
         requires few { turn_count (log_by (N.flash nand.old).image parts).pages ≤ 15 }
-        requires number { age_in (N.flash nand.old).image < 2 ^ 62 }
+        requires number { age_in (N.flash nand.old).image < 2 ^ 63 - 2 ^ 38 }
         ensures stands { IfOk result (λ index. IsIndex index (N.flash nand.new).blocks (N.flash nand.new).image) }
         ensures kept { IsKept (N.flash nand.old).blocks (N.flash nand.old).image (N.flash nand.new).image }
         ensures aged { age_in (N.flash nand.new).image ≤ age_in (N.flash nand.old).image + 1 }
@@ -114,7 +114,7 @@ impl Index {
         requires stands { IsIndex self.old (N.flash nand.old).blocks (N.flash nand.old).image }
         requires size { length entries.now ≤ 640 }
         requires rising { is_rising entries.now ≡ true }
-        requires number { index_age self.old < 2 ^ 62 }
+        requires number { index_age self.old < 2 ^ 63 - 2 ^ 38 }
         ensures stands { OnOk result (IsIndex self.new (N.flash nand.new).blocks (N.flash nand.new).image) }
         ensures place { OnOk result (has_place_in self.new entries.now ≡ true) }
         ensures kept { IsKept (N.flash nand.old).blocks (N.flash nand.old).image (N.flash nand.new).image }
