@@ -9,3 +9,4 @@ pub mod Finishing
 pub mod Tagging
 pub mod Spacing
 pub mod Keeping
+pub mod Moving

@@ -6,3 +6,4 @@ pub mod Viewing
 pub mod Sizes
 pub mod Ending
 pub mod Marked
+pub mod Collecting

@@ -3,12 +3,14 @@
 #![tactic(auto)]
 
 mod calls;
+mod collecting;
 mod ending;
 mod machines;
 mod marked;
 mod viewing;
 
 pub use calls::{outside_causes_agree, refusals_agree, transactions_agree};
+pub use collecting::{blocks_are_left, collections_move};
 pub use ending::{ends_agree, entries_tell_the_objects, sizes_are_counted};
 pub use machines::{faults_agree, machine_stays};
 pub use marked::{marked_pages_stand, marks_follow_entries, space_is_enough};
