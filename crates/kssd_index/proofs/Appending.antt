@@ -27,7 +27,7 @@ use Rattle.kssd_index.specs.Costs.{has_place_in}
 use Rattle.kssd_index.proofs.Anchored.{shown_is, age_is, has_index}
 use Rattle.kssd_index.proofs.Counting.{merged_few}
 use Rattle.kssd_index.proofs.Runs.{runs_stand, pages_outside}
-use Rattle.kssd_index.proofs.Logs.{IsLogNow, KeepsBy, GrowsBy, ring_keeps, ring_grows, ring_values, ring_newest, same_table}
+use Rattle.kssd_index.proofs.Logs.{IsLogNow, log_now, KeepsBy, GrowsBy, ring_keeps, ring_grows, ring_values, ring_newest, same_table}
 
 -- ---- the log before
 
@@ -107,15 +107,8 @@ grown index blocks old entries new turns end next h outside log few fits =
     let n = has_numbers index blocks old entries h in
     let anchor = index.anchor in
     let groups = groups_by old anchor in
-    let now : IsLogNow anchor new (groups ++ entries ∷ []) [] next = record {
-      turns = turns;
-      end = end;
-      log = log;
-      few = few;
-      fits = fits;
-      keys = subst (λ (es : List Entry). length (key_set [] es) ≤ 2048) (sym (more groups))
-          (keys_with groups index.table entries 2048 (table_was index blocks old h.stands) (omega (arith, n.table)));
-    } in
+    let keys = subst (λ (es : List Entry). length (key_set [] es) ≤ 2048) (sym (more groups)) (keys_with groups index.table entries 2048 (table_was index blocks old h.stands) (omega (arith, n.table))) in
+    let now : IsLogNow anchor new (groups ++ entries ∷ []) [] next = log_now anchor new (groups ++ entries ∷ []) [] turns end next log few fits keys in
     let was = shown_is index.page anchor old h.stands.anchored.newest in
     let grows = ring_grows index.page anchor blocks old entries new [] next h.stands.anchored outside now
     (subst (λ (es : List Entry). length (with_entries es entries) ≤ max_keys_in blocks) was h.keys)
@@ -165,15 +158,10 @@ torn : (index : Index) (blocks : ℕ) (old : Image) (entries : List Entry) (new 
     → KeepsBy index.page index.anchor blocks old new t.has.next
 torn index blocks old entries new h outside t =
     let n = has_numbers index blocks old entries h in
-    ring_keeps index.page index.anchor blocks old new t.first t.has.next h.stands.anchored outside (record {
-      turns = t.has.turns;
-      end = t.has.end;
-      log = t.has.log;
-      few = omega (arith, t.has.few_turns, n.turns);
-      fits = omega (arith, t.has.next_fits, n.seq, n.most, h.low);
-      keys = keys_with (groups_by old index.anchor) index.table t.first 2048 (table_was index blocks old h.stands)
-          (omega (arith, merged_few t.first index.table, h.stands.few, h.few, ap (λ (es : List Entry). length es) t.all, length-append t.first t.others));
-    })
+    ring_keeps index.page index.anchor blocks old new t.first t.has.next h.stands.anchored outside
+    (log_now index.anchor new (groups_by old index.anchor) t.first t.has.turns t.has.end t.has.next t.has.log (omega (arith, t.has.few_turns, n.turns)) (omega (arith, t.has.next_fits, n.seq, n.most, h.low))
+    (keys_with (groups_by old index.anchor) index.table t.first 2048 (table_was index blocks old h.stands)
+    (omega (arith, merged_few t.first index.table, h.stands.few, h.few, ap (λ (es : List Entry). length es) t.all, length-append t.first t.others))))
 
 -- what a fault leaves
 pub record IsLeft (blocks : ℕ) (old : Image) (entries : List Entry) (new : Image) (age : ℕ) : Type 0 where

@@ -8,12 +8,12 @@ use Rattle.kssd_entry.specs.declared.entry.Entry.{Entry}
 use Rattle.kssd_model.specs.declared.anchor.Anchor.{Anchor}
 use Rattle.kssd_model.specs.Anchors.{newest_in}
 use Rattle.kssd_model.specs.Rising.{is_rising, merged}
-use Rattle.kssd_model.specs.Groups.{Walk, HasLog, seen, Ends, rest_from, turn_count, key_set}
+use Rattle.kssd_model.specs.Groups.{Walk, HasLog, log_in, key_set}
 use Rattle.kssd_model.specs.GroupsLaws.{HasBytes}
 use Rattle.kssd_model.proofs.GroupsWalks.{log_in_is, groups_in_log, log_from_walk}
 use Rattle.kssd_image.specs.Stages.{entries_of, log_map, runs_map, without_marks, merged_by, shown_by}
 use Rattle.kssd_image.specs.AnchorForm.{IsAnchorForm, anchor_age}
-use Rattle.kssd_image.specs.Whole.{log_of, pages_named, IsIndexOf, age_by}
+use Rattle.kssd_image.specs.Whole.{log_of, IsLogWhole, pages_named, IsIndexOf, age_by}
 use Rattle.kssd_log.specs.Append.{StaysOutside}
 use Rattle.kssd_frames.specs.Same.{IsSameAt, as_counted}
 use Rattle.kssd_frames.specs.Logging.{groups_by}
@@ -42,14 +42,22 @@ ring_values blocks old new outside q le = outside q (inr (omega arith))
 
 -- ---- a log that is known
 
--- a log from an anchor's place on, with few enough blocks and keys
+-- a log from an anchor's place on, which a mount takes
 pub record IsLogNow (anchor : Anchor) (image : Image) (groups : List (List Entry)) (rest : List Entry) (next : ℕ) : Type 0 where
   pub turns : ℕ
   pub end : ℕ
   pub log : HasLog image (32 * anchor.log_block) anchor.log_seq groups rest turns end next
-  pub few : turns ≤ 15
   pub fits : next < 2 ^ 64
-  pub keys : length (key_set [] (entries_of groups ++ rest)) ≤ 2048
+  pub whole : IsLogWhole image (log_in image (32 * anchor.log_block) anchor.log_seq)
+
+pub log_now : (anchor : Anchor) (image : Image) (groups : List (List Entry)) (rest : List Entry) (turns end next : ℕ) → HasLog image (32 * anchor.log_block) anchor.log_seq groups rest turns end next → turns ≤ 15 → next < 2 ^ 64 → length (key_set [] (entries_of groups ++ rest)) ≤ 2048 → IsLogNow anchor image groups rest next
+log_now anchor image groups rest turns end next log few fits keys = record {
+  turns = turns;
+  end = end;
+  log = log;
+  fits = fits;
+  whole = log_is_whole image (32 * anchor.log_block) anchor.log_seq groups rest turns end next log few fits keys;
+}
 
 pub table_is : (anchor : Anchor) (image : Image) (groups : List (List Entry)) (rest : List Entry) (next : ℕ) → IsLogNow anchor image groups rest next → table_of image anchor ≡ merged (entries_of groups) []
 unfolding log_map
@@ -93,7 +101,7 @@ ring_keeps page anchor blocks old new rest next h outside now =
       anchored = record {
         newest = ring_newest old new outside ∙ h.newest;
         index = index_from blocks old new anchor h.index (ring_runs blocks old new anchor h.index.form outside)
-            (log_is_whole new (32 * anchor.log_block) anchor.log_seq (groups_by old anchor) rest now.turns now.end next now.log now.few now.fits now.keys)
+            now.whole
             (omega (arith, ap (λ (es : List Entry). length es) shown, h.index.room.keys))
             (omega (arith, ap (λ (es : List Entry). length (pages_named es)) shown, h.index.room.pages));
       };
@@ -138,7 +146,7 @@ ring_grows page anchor blocks old entries new rest next h outside now keys pages
       anchored = record {
         newest = ring_newest old new outside ∙ h.newest;
         index = index_from blocks old new anchor h.index (ring_runs blocks old new anchor h.index.form outside)
-            (log_is_whole new (32 * anchor.log_block) anchor.log_seq groups rest now.turns now.end next now.log now.few now.fits now.keys)
+            now.whole
             (omega (arith, ap (λ (es : List Entry). length es) shown, keys))
             (omega (arith, ap (λ (es : List Entry). length (pages_named es)) shown, pages));
       };

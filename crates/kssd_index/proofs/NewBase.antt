@@ -1,5 +1,5 @@
 -- What holds when an index begins anew.
-use Rattle.std.proofs.Common.{true, false, ◌≡◌, ◌∙◌, ◌⊎◌, ℕ, zero, suc, ◌+◌, ◌-◌, ◌*◌, ◌/◌, ◌<◌, ◌≤◌, ◌^◌, max, Bool, not, cond, eqb, leb, List, [], ◌∷◌, ◌++◌, length, map, filter, sum_by, Option, Some, refl, sym, ap, subst, arith, inl, inr}
+use Rattle.std.proofs.Common.{true, false, ◌≡◌, ◌∙◌, ◌⊎◌, ℕ, zero, suc, ◌+◌, ◌-◌, ◌*◌, ◌/◌, ◌%◌, ◌<◌, ◌≤◌, ◌^◌, max, Bool, not, cond, eqb, leb, List, [], ◌∷◌, ◌++◌, length, map, filter, sum_by, Option, Some, refl, sym, ap, subst, arith, inl, inr}
 use Rattle.std.specs.Prelude.{nat_eq, nat_le}
 use Rattle.std.specs.Option.{IsSomeAnd}
 use Rattle.std.proofs.lemmas.List.Sums.{sum_by-cons}
@@ -18,8 +18,10 @@ use Rattle.kssd_model.proofs.GroupsPaths.{next_in_ring}
 use Rattle.kssd_layout.specs.declared.layout.Layout.{Layout}
 use Rattle.kssd_model.specs.Rising.{is_rising, is_gone, merged}
 use Rattle.kssd_model.specs.RunPages.{run_page, run_entries, IsGoodRun}
-use Rattle.kssd_model.specs.Groups.{Walk, HasLog, stop, log_in, next_block, seen, Ends, AreAllowed, different_keys, logged, key_set, rest_from, turn_count}
+use Rattle.kssd_model.specs.Groups.{LogPage, Walk, Path, HasLog, WithinBlocks, next_place, stop, log_in, next_block, seen, Ends, AreAllowed, different_keys, logged, key_set, rest_from, turn_count}
 use Rattle.kssd_model.specs.GroupsLaws.{HasBytes}
+use Rattle.kssd_model.proofs.GroupsWalks.{log_in_is}
+use Rattle.kssd_image.proofs.LogDamage.{path_is_short, turns_within}
 use Rattle.kssd_image.specs.Stages.{runs_map, without_marks, merged_by, shown_by, shown_in, entries_of}
 use Rattle.kssd_image.specs.AnchorForm.{IsAnchorForm, IsRunForm, anchor_age, run_numbers, blocks_of}
 use Rattle.kssd_image.specs.Whole.{log_of, IsLogWhole, pages_named, IsIndexOf, HasRoom, keys_from_level, age_by, age_in}
@@ -186,22 +188,63 @@ behind_stays blocks old new anchor index same = index_stays blocks old new ancho
 
 -- ---- the ring's block is erased
 
-keys_allowed : (image : Image) (anchor : Anchor) (log : Walk) → AreAllowed log.pages → length (key_set [] (entries_of (Rattle.kssd_model.specs.Groups.groups_from [] log.pages) ++ rest_from [] log.pages)) ≤ 2048
-keys_allowed image anchor log allowed = omega (arith, allowed.keys, ap (λ (es : List Entry). length (key_set [] es)) (all_logged [] log.pages))
+-- a log within 16 blocks that has 16 turns ends in page 0 of a block
+ends_first : (image : Image) (turns page number : ℕ) (xs : List LogPage) (end next : ℕ) → Path image page number xs end next → WithinBlocks turns xs → (turns ≡ 16 → page % 32 ≡ 0) → turns + turn_count xs ≡ 16 → end % 32 ≡ 0
+ends_first image turns page number [] end next path within first all = ap (λ n. n % 32) path.0 ∙ first (omega (arith, all))
+ends_first image turns page number (x ∷ xs) end next path within first all = by (eqb x.flags 2) refl (λ first_then. ends_first image (turns + cond (eqb x.flags 2) 1 0) (next_place page x) (number + 1) xs end next path.1 within.1 first_then (omega (arith, all)))
+  where
+    by : (b : Bool) → eqb x.flags 2 ≡ b → ((turns + cond (eqb x.flags 2) 1 0 ≡ 16 → next_place page x % 32 ≡ 0) → end % 32 ≡ 0) → end % 32 ≡ 0
+    by true e rest = rest (λ more.
+        let place : next_place page x ≡ 32 * next_block (page / 32) = ap (λ b. cond b (32 * next_block (page / 32)) (page + 1)) e in
+        omega (arith, ap (λ n. n % 32) place))
+    by false e rest = rest (λ more. absurd (omega (arith, within.0, more, ap (λ (b : Bool). let n : ℕ = cond b 1 0 in n) e)))
 
-pub log_kept : (page : ℕ) (anchor : Anchor) (blocks : ℕ) (old new : Image) (last : ℕ) → HasBytes old → IsAnchored page anchor blocks old → (log_of old anchor).end / 32 ≡ last → turn_count (log_of old anchor).pages ≤ 15 → (log_of old anchor).next < 2 ^ 64
+-- and one that has 16 turns and ends there is within 16 blocks
+within_16 : (image : Image) (turns page number : ℕ) (xs : List LogPage) (end next : ℕ) → Path image page number xs end next → turns + turn_count xs ≤ 16 → (turns + turn_count xs ≡ 16 → end % 32 ≡ 0) → WithinBlocks turns xs
+within_16 image turns page number [] end next path few last = tt
+within_16 image turns page number (x ∷ xs) end next path few last = (
+  elim (cases_lt turns 16) [
+    | inl lt ↦ lt
+    | inr le ↦
+        let all : turns + turn_count (x ∷ xs) ≡ 16 = omega (arith, few) in
+        absurd (omega (arith, path_is_short image page number (x ∷ xs) end next path, last all, all))
+  ],
+  within_16 image (turns + cond (eqb x.flags 2) 1 0) (next_place page x) (number + 1) xs end next path.1 (omega (arith, few)) (λ all. last (omega (arith, all))),
+)
+
+allowed_again : (old new : Image) (page number : ℕ) (groups : List (List Entry)) (rest : List Entry) (turns end next : ℕ) → page % 32 ≡ 0 → (was : HasLog old page number groups rest turns end next) → (now : HasLog new page number groups rest turns end next) → AreAllowed was.pages → AreAllowed now.pages
+allowed_again old new page number groups rest turns end next start was now allowed =
+    let all : turn_count was.pages ≡ turn_count now.pages = was.turns_are ∙ sym now.turns_are in
+    let keys : logged now.pages ≡ logged was.pages =
+    sym (all_logged [] now.pages) ∙ (λ i. entries_of (now.groups_are i) ++ now.rest_is i) ∙ (λ i. entries_of (sym was.groups_are i) ++ sym was.rest_is i) ∙ all_logged [] was.pages in
+    record {
+      blocks = within_16 new 0 page number now.pages end next now.path (omega (arith, turns_within 0 was.pages allowed.blocks (omega arith), all))
+          (λ sixteen. ends_first old 0 page number was.pages end next was.path allowed.blocks (λ e. start) (omega (arith, sixteen, all)));
+      keys = omega (arith, allowed.keys, ap (λ (es : List Entry). length (key_set [] es)) keys);
+    }
+
+pub log_kept : (page : ℕ) (anchor : Anchor) (blocks : ℕ) (old new : Image) (last : ℕ) → HasBytes old → IsAnchored page anchor blocks old → (log_of old anchor).end / 32 ≡ last → (log_of old anchor).next < 2 ^ 64
     → KeepsLogs last old new → StaysOutside old new → KeepsBy page anchor blocks old new (log_of old anchor).next
-log_kept page anchor blocks old new last has h at few low keeps outside =
-    let log = log_stands blocks old anchor has h.index in
+log_kept page anchor blocks old new last has h at low keeps outside =
+    let groups = groups_by old anchor in
+    let rest = rest_from [] (log_of old anchor).pages in
+    let turns = turn_count (log_of old anchor).pages in
+    let end = (log_of old anchor).end in
+    let next = (log_of old anchor).next in
     let form = h.index.form in
-    ring_keeps page anchor blocks old new (rest_from [] (log_of old anchor).pages) (log_of old anchor).next h outside (record {
-      turns = turn_count (log_of old anchor).pages;
-      end = (log_of old anchor).end;
-      log = keeps (32 * anchor.log_block) anchor.log_seq (turn_count (log_of old anchor).pages) (log_of old anchor).end (log_of old anchor).next (groups_by old anchor) (rest_from [] (log_of old anchor).pages)
-          (record { low = omega (arith, form.log_low); high = omega (arith, form.log_high) }) (omega (arith, few)) at log;
-      few = few;
+    let start = 32 * anchor.log_block in
+    let was = log_stands blocks old anchor has h.index in
+    let few = turns_within 0 (log_of old anchor).pages h.index.log.allowed.blocks (omega arith) in
+    let now = keeps start anchor.log_seq turns end next groups rest (record { low = omega (arith, form.log_low); high = omega (arith, form.log_high) }) (omega (arith, few)) at was in
+    let is = log_in_is new start anchor.log_seq groups rest turns end next now low in
+    let was_is = log_in_is old start anchor.log_seq groups rest turns end next was low in
+    let allowed = allowed_again old new start anchor.log_seq groups rest turns end next (omega arith) was now (subst (λ (w : Walk). AreAllowed w.pages) was_is h.index.log.allowed) in
+    ring_keeps page anchor blocks old new rest next h outside (record {
+      turns = turns;
+      end = end;
+      log = now;
       fits = low;
-      keys = keys_allowed old anchor (log_of old anchor) h.index.log.allowed;
+      whole = subst (λ (w : Walk). IsLogWhole new w) (sym is) (record { allowed = allowed; ends = now.ends });
     })
 
 -- ---- what each exit keeps
@@ -263,11 +306,11 @@ clean_from flash block seq h q at = elim (cases_lt (32 * block) q) [
 
 pub is_begun : (page : ℕ) (anchor next : Anchor) (run : Run) (levels : Levels) (blocks : ℕ) (old : Image) (ready : Flash) (last : ℕ) → HasBytes old → IsAnchored page anchor blocks old
     → IsBaseOf run anchor.next_run (shown_by old anchor) blocks old → IsAlone blocks run levels → MayName (Rattle.kssd_levels.specs.Levels.device_of levels) (infos_of levels)
-    → last ≡ (log_of old anchor).end / 32 → turn_count (log_of old anchor).pages ≤ 15 → age_by old anchor < 2 ^ 63 - 2 ^ 38
+    → last ≡ (log_of old anchor).end / 32 → age_by old anchor < 2 ^ 63 - 2 ^ 38
     → KeepsLogs last old ready.image → StaysOutside old ready.image → IsPlace ready (begun (next_block last) (log_of old anchor).next)
     → next ≡ following anchor (infos_of levels) (next_block last) (log_of old anchor).next
     → IsBegun page anchor next run levels blocks old ready.image
-is_begun page anchor next run levels blocks old ready last has h base alone named at few low keeps outside place is =
+is_begun page anchor next run levels blocks old ready last has h base alone named at low keeps outside place is =
     let seq = seq_low anchor old low in
     let in_ring = last_in_ring page anchor blocks old last h at in
     let n = next_in_ring last in_ring.0 (omega (arith, in_ring.1)) in
@@ -275,7 +318,7 @@ is_begun page anchor next run levels blocks old ready last has h base alone name
     let number : next.log_seq ≡ (log_of old anchor).next = ap (λ (a : Anchor). a.log_seq) is in
     record {
       anchored = h;
-      keeps = log_kept page anchor blocks old ready.image last has h (sym at) few (omega (arith, seq)) keeps outside;
+      keeps = log_kept page anchor blocks old ready.image last has h (sym at) (omega (arith, seq)) keeps outside;
       ready_is = record {
         form = h.index.form;
         room = h.index.room;
@@ -403,10 +446,10 @@ can_follow page anchor next run levels blocks old ready h =
 
 -- ---- the ring's block is erased or half erased
 
-pub ring_left : (page : ℕ) (anchor : Anchor) (blocks : ℕ) (old new : Image) (last : ℕ) → HasBytes old → IsAnchored page anchor blocks old → last ≡ (log_of old anchor).end / 32 → turn_count (log_of old anchor).pages ≤ 15 → age_by old anchor < 2 ^ 63 - 2 ^ 38
+pub ring_left : (page : ℕ) (anchor : Anchor) (blocks : ℕ) (old new : Image) (last : ℕ) → HasBytes old → IsAnchored page anchor blocks old → last ≡ (log_of old anchor).end / 32 → age_by old anchor < 2 ^ 63 - 2 ^ 38
     → KeepsLogs last old new → StaysOutside old new → IsKeptAt blocks old new (age_by old anchor + 1)
-ring_left page anchor blocks old new last has h at few low keeps outside =
-    let k = log_kept page anchor blocks old new last has h (sym at) few (omega (arith, seq_low anchor old low)) keeps outside in
+ring_left page anchor blocks old new last has h at low keeps outside =
+    let k = log_kept page anchor blocks old new last has h (sym at) (omega (arith, seq_low anchor old low)) keeps outside in
     record {
       kept = kept_by page anchor blocks old new h k.anchored k.shown (ring_values blocks old new outside);
       aged = omega (arith, age_is page anchor new k.anchored.newest, k.age_is);

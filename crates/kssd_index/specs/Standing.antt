@@ -4,7 +4,7 @@ use Rattle.kv_nand.specs.Flash.{Image, Erased, MayProgram}
 use Rattle.kssd_entry.specs.declared.entry.Entry.{Entry}
 use Rattle.kssd_model.specs.declared.anchor.Anchor.{Anchor}
 use Rattle.kssd_model.specs.Anchors.{newest_in}
-use Rattle.kssd_model.specs.Groups.{Walk, rest_from, turn_count}
+use Rattle.kssd_model.specs.Groups.{rest_from, turn_count}
 use Rattle.kssd_levels.specs.declared.levels.Levels.{Levels}
 use Rattle.kssd_levels.specs.Levels.{infos_of, StandLevels}
 use Rattle.kssd_log.specs.declared.place.Place.{Place}
@@ -78,7 +78,3 @@ is_clean parts = parts.clean
 -- nothing is wrong with the anchor's own fields
 abbrev pub IsFit : IndexParts → Type 0
 IsFit parts = IsAnchorFit parts.layout.blocks parts.anchor
-
--- the pages of their anchor's log, and where it ends
-abbrev pub log_by : Image → IndexParts → Walk
-log_by image parts = log_of image parts.anchor

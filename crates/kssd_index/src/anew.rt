@@ -1,11 +1,11 @@
 // An index that begins anew, on a base of all visible entries.
-ghost use Rattle.std.specs.Prelude.{◌-◌, ◌≡◌, ◌≤◌, ◌<◌, ◌+◌, ◌*◌, ◌/◌, ◌^◌, [], true, length, IfOk, OnOk, IfErr};
+ghost use Rattle.std.specs.Prelude.{◌≡◌, ◌≤◌, ◌<◌, ◌+◌, ◌-◌, ◌*◌, ◌/◌, ◌^◌, [], true, length, IfOk, OnOk, IfErr};
 ghost use Rattle.kv_nand.specs.Working.{Works, Stops};
 ghost use Rattle.kssd_layout.specs.Numbers.{max_keys_in, base_blocks_in};
 ghost use Rattle.kssd_model.specs.Rising.{is_rising, merged};
 ghost use Rattle.kssd_image.specs.Stages.{without_marks, shown_by};
 ghost use Rattle.kssd_image.specs.Whole.{log_of, age_by, age_in};
-ghost use Rattle.kssd_model.specs.Groups.{turn_count, next_block};
+ghost use Rattle.kssd_model.specs.Groups.{next_block};
 ghost use Rattle.kssd_log.specs.Ring.{begun};
 ghost use Rattle.kssd_model.specs.OnlyReading.{OnlyReads, StopsReading};
 ghost use Rattle.kssd_levels.specs.Streams.{stream_rest, StandsStream, stream_houses};
@@ -124,7 +124,6 @@ pub fn begin_anew<N: Nand>(
     requires base { IsBaseOf run anchor.now.next_run (shown_by (N.flash nand.old).image anchor.now) (N.flash nand.old).blocks (N.flash nand.old).image }
     requires last { last_block ≡ (log_of (N.flash nand.old).image anchor.now).end / 32 }
     requires next { next_seq ≡ (log_of (N.flash nand.old).image anchor.now).next }
-    requires few { turn_count (log_of (N.flash nand.old).image anchor.now).pages ≤ 15 }
     requires number { age_by (N.flash nand.old).image anchor.now < 2 ^ 63 - 2 ^ 38 }
     ensures stands { IfOk result (λ index. IsIndex index (N.flash nand.new).blocks (N.flash nand.new).image) }
     ensures ring { IfOk result (λ index. index_ring index ≡ begun (next_block last_block) next_seq) }

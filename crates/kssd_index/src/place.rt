@@ -37,10 +37,9 @@ impl Index {
     ghost use Rattle.std.specs.Prelude.{◌≡◌, ◌≤◌, ◌<◌, ◌+◌, ◌-◌, ◌^◌, ℕ, true, length, IfOk, OnOk, OnErr, IfErr};
     ghost use Rattle.kv_nand.specs.Flash.{Image};
     ghost use Rattle.kv_nand.specs.Working.{Works, Stops};
-    ghost use Rattle.kssd_model.specs.Groups.{turn_count};
     ghost use Rattle.kssd_model.specs.Rising.{is_rising};
     ghost use Rattle.kssd_image.specs.Whole.{age_in};
-    ghost use Rattle.kssd_index.specs.Standing.{IsIndex, AreParts, IsFit, is_clean, index_age, log_by};
+    ghost use Rattle.kssd_index.specs.Standing.{IsIndex, AreParts, IsFit, is_clean, index_age};
     ghost use Rattle.kssd_index.specs.Mapping.{IsKept};
     ghost use Rattle.kssd_index.specs.Costs.{has_place_in, most_place_cost};
 
@@ -74,7 +73,6 @@ impl Index {
         parts: IndexParts,
     ) -> Result<Index, FlashFault>
         requires parts { AreParts parts (N.flash nand.old).blocks (N.flash nand.old).image }
-        requires few { turn_count (log_by (N.flash nand.old).image parts).pages ≤ 15 }
         requires number { age_in (N.flash nand.old).image < 2 ^ 63 - 2 ^ 38 }
         ensures stands { IfOk result (λ index. IsIndex index (N.flash nand.new).blocks (N.flash nand.new).image) }
         ensures kept { IsKept (N.flash nand.old).blocks (N.flash nand.old).image (N.flash nand.new).image }

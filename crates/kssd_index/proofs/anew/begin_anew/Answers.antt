@@ -30,16 +30,16 @@ pub begin-requires-clause-last : goal.begin-requires-clause-last
 begin-requires-clause-last g c = last_in_ring c.args.page c.args.anchor.now _ _ c.args.last_block c.requires.anchored c.requires.last
 
 pub returns-in_err-ring-clause-kept : goal.returns-in_err-ring-clause-kept
-returns-in_err-ring-clause-kept g c = (ring_left c.args.page c.args.anchor.now _ _ (g.N.Nand.flash c.begin.new.nand).image c.args.last_block (has_bytes _ (g.met.N.Nand.sound c.args.nand.now)) c.requires.anchored c.requires.last c.requires.few c.requires.number c.in_err-ring.ensures.kept c.in_err-ring.ensures.outside).kept
+returns-in_err-ring-clause-kept g c = (ring_left c.args.page c.args.anchor.now _ _ (g.N.Nand.flash c.begin.new.nand).image c.args.last_block (has_bytes _ (g.met.N.Nand.sound c.args.nand.now)) c.requires.anchored c.requires.last c.requires.number c.in_err-ring.ensures.kept c.in_err-ring.ensures.outside).kept
 
 pub returns-in_err-ring-clause-aged : goal.returns-in_err-ring-clause-aged
-returns-in_err-ring-clause-aged g c = (ring_left c.args.page c.args.anchor.now _ _ (g.N.Nand.flash c.begin.new.nand).image c.args.last_block (has_bytes _ (g.met.N.Nand.sound c.args.nand.now)) c.requires.anchored c.requires.last c.requires.few c.requires.number c.in_err-ring.ensures.kept c.in_err-ring.ensures.outside).aged
+returns-in_err-ring-clause-aged g c = (ring_left c.args.page c.args.anchor.now _ _ (g.N.Nand.flash c.begin.new.nand).image c.args.last_block (has_bytes _ (g.met.N.Nand.sound c.args.nand.now)) c.requires.anchored c.requires.last c.requires.number c.in_err-ring.ensures.kept c.in_err-ring.ensures.outside).aged
 
 pub returns-in_err-next-clause-kept : goal.returns-in_err-next-clause-kept
-returns-in_err-next-clause-kept g c = (ring_left c.args.page c.args.anchor.now _ _ (g.N.Nand.flash c.begin.new.nand).image c.args.last_block (has_bytes _ (g.met.N.Nand.sound c.args.nand.now)) c.requires.anchored c.requires.last c.requires.few c.requires.number c.in_ok-ring.ensures.kept c.in_ok-ring.ensures.outside).kept
+returns-in_err-next-clause-kept g c = (ring_left c.args.page c.args.anchor.now _ _ (g.N.Nand.flash c.begin.new.nand).image c.args.last_block (has_bytes _ (g.met.N.Nand.sound c.args.nand.now)) c.requires.anchored c.requires.last c.requires.number c.in_ok-ring.ensures.kept c.in_ok-ring.ensures.outside).kept
 
 pub returns-in_err-next-clause-aged : goal.returns-in_err-next-clause-aged
-returns-in_err-next-clause-aged g c = (ring_left c.args.page c.args.anchor.now _ _ (g.N.Nand.flash c.begin.new.nand).image c.args.last_block (has_bytes _ (g.met.N.Nand.sound c.args.nand.now)) c.requires.anchored c.requires.last c.requires.few c.requires.number c.in_ok-ring.ensures.kept c.in_ok-ring.ensures.outside).aged
+returns-in_err-next-clause-aged g c = (ring_left c.args.page c.args.anchor.now _ _ (g.N.Nand.flash c.begin.new.nand).image c.args.last_block (has_bytes _ (g.met.N.Nand.sound c.args.nand.now)) c.requires.anchored c.requires.last c.requires.number c.in_ok-ring.ensures.kept c.in_ok-ring.ensures.outside).aged
 
 pub write-requires-clause-spelling : goal.write-requires-clause-spelling
 write-requires-clause-spelling g c =
@@ -53,7 +53,7 @@ write-requires-clause-spelling g c =
     let block : c.block.result ≡ next_block c.args.last_block = block_is c.in_ok-ring.ring (next_block c.args.last_block) c.args.next_seq c.block.result c.block.ensures.block c.in_ok-ring.ensures.ok in
     let is : next ≡ following anchor (infos_of levels) (next_block c.args.last_block) (log_of old.image anchor).next =
     c.in_ok-next.ensures.next ∙ (λ i. following anchor (infos_of levels) (block i) (c.requires.next i)) in
-    let h = is_begun c.args.page anchor next c.args.run levels old.blocks old.image ready c.args.last_block (has_bytes old (g.met.N.Nand.sound c.args.nand.now)) c.requires.anchored c.requires.base alone c.in_ok-next.ensures.named c.requires.last c.requires.few c.requires.number c.in_ok-ring.ensures.kept c.in_ok-ring.ensures.outside place is in
+    let h = is_begun c.args.page anchor next c.args.run levels old.blocks old.image ready c.args.last_block (has_bytes old (g.met.N.Nand.sound c.args.nand.now)) c.requires.anchored c.requires.base alone c.in_ok-next.ensures.named c.requires.last c.requires.number c.in_ok-ring.ensures.kept c.in_ok-ring.ensures.outside place is in
     spelled c.args.page anchor next c.args.run levels old.blocks old.image ready.image h c.requires.number
 
 pub write-requires-clause-last : goal.write-requires-clause-last
@@ -68,7 +68,7 @@ write-requires-clause-last g c =
     let block : c.block.result ≡ next_block c.args.last_block = block_is c.in_ok-ring.ring (next_block c.args.last_block) c.args.next_seq c.block.result c.block.ensures.block c.in_ok-ring.ensures.ok in
     let is : next ≡ following anchor (infos_of levels) (next_block c.args.last_block) (log_of old.image anchor).next =
     c.in_ok-next.ensures.next ∙ (λ i. following anchor (infos_of levels) (block i) (c.requires.next i)) in
-    let h = is_begun c.args.page anchor next c.args.run levels old.blocks old.image ready c.args.last_block (has_bytes old (g.met.N.Nand.sound c.args.nand.now)) c.requires.anchored c.requires.base alone c.in_ok-next.ensures.named c.requires.last c.requires.few c.requires.number c.in_ok-ring.ensures.kept c.in_ok-ring.ensures.outside place is in
+    let h = is_begun c.args.page anchor next c.args.run levels old.blocks old.image ready c.args.last_block (has_bytes old (g.met.N.Nand.sound c.args.nand.now)) c.requires.anchored c.requires.base alone c.in_ok-next.ensures.named c.requires.last c.requires.number c.in_ok-ring.ensures.kept c.in_ok-ring.ensures.outside place is in
     can_follow c.args.page anchor next c.args.run levels old.blocks old.image ready.image h
 
 pub returns-in_err-place-clause-kept : goal.returns-in_err-place-clause-kept
@@ -83,7 +83,7 @@ returns-in_err-place-clause-kept g c =
     let block : c.block.result ≡ next_block c.args.last_block = block_is c.in_ok-ring.ring (next_block c.args.last_block) c.args.next_seq c.block.result c.block.ensures.block c.in_ok-ring.ensures.ok in
     let is : next ≡ following anchor (infos_of levels) (next_block c.args.last_block) (log_of old.image anchor).next =
     c.in_ok-next.ensures.next ∙ (λ i. following anchor (infos_of levels) (block i) (c.requires.next i)) in
-    let h = is_begun c.args.page anchor next c.args.run levels old.blocks old.image ready c.args.last_block (has_bytes old (g.met.N.Nand.sound c.args.nand.now)) c.requires.anchored c.requires.base alone c.in_ok-next.ensures.named c.requires.last c.requires.few c.requires.number c.in_ok-ring.ensures.kept c.in_ok-ring.ensures.outside place is in
+    let h = is_begun c.args.page anchor next c.args.run levels old.blocks old.image ready c.args.last_block (has_bytes old (g.met.N.Nand.sound c.args.nand.now)) c.requires.anchored c.requires.base alone c.in_ok-next.ensures.named c.requires.last c.requires.number c.in_ok-ring.ensures.kept c.in_ok-ring.ensures.outside place is in
     (old_or_given c.args.page anchor next c.args.run levels old.blocks old.image ready.image (g.N.Nand.flash c.write.new.nand).image h c.in_err-place.ensures.err c.in_err-place.ensures.behind).kept
 
 pub returns-in_err-place-clause-aged : goal.returns-in_err-place-clause-aged
@@ -98,7 +98,7 @@ returns-in_err-place-clause-aged g c =
     let block : c.block.result ≡ next_block c.args.last_block = block_is c.in_ok-ring.ring (next_block c.args.last_block) c.args.next_seq c.block.result c.block.ensures.block c.in_ok-ring.ensures.ok in
     let is : next ≡ following anchor (infos_of levels) (next_block c.args.last_block) (log_of old.image anchor).next =
     c.in_ok-next.ensures.next ∙ (λ i. following anchor (infos_of levels) (block i) (c.requires.next i)) in
-    let h = is_begun c.args.page anchor next c.args.run levels old.blocks old.image ready c.args.last_block (has_bytes old (g.met.N.Nand.sound c.args.nand.now)) c.requires.anchored c.requires.base alone c.in_ok-next.ensures.named c.requires.last c.requires.few c.requires.number c.in_ok-ring.ensures.kept c.in_ok-ring.ensures.outside place is in
+    let h = is_begun c.args.page anchor next c.args.run levels old.blocks old.image ready c.args.last_block (has_bytes old (g.met.N.Nand.sound c.args.nand.now)) c.requires.anchored c.requires.base alone c.in_ok-next.ensures.named c.requires.last c.requires.number c.in_ok-ring.ensures.kept c.in_ok-ring.ensures.outside place is in
     (old_or_given c.args.page anchor next c.args.run levels old.blocks old.image ready.image (g.N.Nand.flash c.write.new.nand).image h c.in_err-place.ensures.err c.in_err-place.ensures.behind).aged
 
 pub returns-clause-kept : goal.returns-clause-kept
@@ -113,7 +113,7 @@ returns-clause-kept g c =
     let block : c.block.result ≡ next_block c.args.last_block = block_is c.in_ok-ring.ring (next_block c.args.last_block) c.args.next_seq c.block.result c.block.ensures.block c.in_ok-ring.ensures.ok in
     let is : next ≡ following anchor (infos_of levels) (next_block c.args.last_block) (log_of old.image anchor).next =
     c.in_ok-next.ensures.next ∙ (λ i. following anchor (infos_of levels) (block i) (c.requires.next i)) in
-    let h = is_begun c.args.page anchor next c.args.run levels old.blocks old.image ready c.args.last_block (has_bytes old (g.met.N.Nand.sound c.args.nand.now)) c.requires.anchored c.requires.base alone c.in_ok-next.ensures.named c.requires.last c.requires.few c.requires.number c.in_ok-ring.ensures.kept c.in_ok-ring.ensures.outside place is in
+    let h = is_begun c.args.page anchor next c.args.run levels old.blocks old.image ready c.args.last_block (has_bytes old (g.met.N.Nand.sound c.args.nand.now)) c.requires.anchored c.requires.base alone c.in_ok-next.ensures.named c.requires.last c.requires.number c.in_ok-ring.ensures.kept c.in_ok-ring.ensures.outside place is in
     (given_kept c.args.page c.in_ok-place.place anchor next c.args.run levels old.blocks old.image ready.image (g.N.Nand.flash c.write.new.nand).image h c.in_ok-place.ensures.ok.newest c.in_ok-place.ensures.behind).kept
 
 pub returns-clause-aged : goal.returns-clause-aged
@@ -128,7 +128,7 @@ returns-clause-aged g c =
     let block : c.block.result ≡ next_block c.args.last_block = block_is c.in_ok-ring.ring (next_block c.args.last_block) c.args.next_seq c.block.result c.block.ensures.block c.in_ok-ring.ensures.ok in
     let is : next ≡ following anchor (infos_of levels) (next_block c.args.last_block) (log_of old.image anchor).next =
     c.in_ok-next.ensures.next ∙ (λ i. following anchor (infos_of levels) (block i) (c.requires.next i)) in
-    let h = is_begun c.args.page anchor next c.args.run levels old.blocks old.image ready c.args.last_block (has_bytes old (g.met.N.Nand.sound c.args.nand.now)) c.requires.anchored c.requires.base alone c.in_ok-next.ensures.named c.requires.last c.requires.few c.requires.number c.in_ok-ring.ensures.kept c.in_ok-ring.ensures.outside place is in
+    let h = is_begun c.args.page anchor next c.args.run levels old.blocks old.image ready c.args.last_block (has_bytes old (g.met.N.Nand.sound c.args.nand.now)) c.requires.anchored c.requires.base alone c.in_ok-next.ensures.named c.requires.last c.requires.number c.in_ok-ring.ensures.kept c.in_ok-ring.ensures.outside place is in
     (given_kept c.args.page c.in_ok-place.place anchor next c.args.run levels old.blocks old.image ready.image (g.N.Nand.flash c.write.new.nand).image h c.in_ok-place.ensures.ok.newest c.in_ok-place.ensures.behind).aged
 
 pub returns-clause-stands : goal.returns-clause-stands
@@ -143,7 +143,7 @@ returns-clause-stands g c =
     let block : c.block.result ≡ next_block c.args.last_block = block_is c.in_ok-ring.ring (next_block c.args.last_block) c.args.next_seq c.block.result c.block.ensures.block c.in_ok-ring.ensures.ok in
     let is : next ≡ following anchor (infos_of levels) (next_block c.args.last_block) (log_of old.image anchor).next =
     c.in_ok-next.ensures.next ∙ (λ i. following anchor (infos_of levels) (block i) (c.requires.next i)) in
-    let h = is_begun c.args.page anchor next c.args.run levels old.blocks old.image ready c.args.last_block (has_bytes old (g.met.N.Nand.sound c.args.nand.now)) c.requires.anchored c.requires.base alone c.in_ok-next.ensures.named c.requires.last c.requires.few c.requires.number c.in_ok-ring.ensures.kept c.in_ok-ring.ensures.outside place is in
+    let h = is_begun c.args.page anchor next c.args.run levels old.blocks old.image ready c.args.last_block (has_bytes old (g.met.N.Nand.sound c.args.nand.now)) c.requires.anchored c.requires.base alone c.in_ok-next.ensures.named c.requires.last c.requires.number c.in_ok-ring.ensures.kept c.in_ok-ring.ensures.outside place is in
     let new = g.N.Nand.flash c.write.new.nand in
     let home = subst (λ (n : ℕ). IsBegun c.args.page anchor next c.args.run levels n old.image ready.image) (sym c.requires.device) h in
     let number : next.log_seq ≡ c.args.next_seq = ap (λ (a : Anchor). a.log_seq) c.in_ok-next.ensures.next in

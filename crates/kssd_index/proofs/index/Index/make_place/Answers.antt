@@ -86,16 +86,6 @@ begin_anew-requires-clause-next g c =
     let age = age_is parts.page parts.anchor old.image h.anchored.newest in
     c.seq.ensures.number ∙ sym h.log.number ∙ ap (λ (w : Walk). w.next) (sym after.stays.log)
 
-pub begin_anew-requires-clause-few : goal.begin_anew-requires-clause-few
-begin_anew-requires-clause-few g c =
-    let old = g.N.Nand.flash c.args.nand.now in
-    let mid = g.N.Nand.flash c.write_shown.new.nand in
-    let parts = c.args.self.now in
-    let h = c.requires.stands in
-    let after = after_base parts.page parts.anchor parts.levels old.blocks old.image mid.image h.anchored h.runs c.in_ok-run.ensures.named in
-    let age = age_is parts.page parts.anchor old.image h.anchored.newest in
-    omega (arith, h.log.blocks, ap (λ (w : Walk). turn_count w.pages) after.stays.log)
-
 pub begin_anew-requires-clause-number : goal.begin_anew-requires-clause-number
 begin_anew-requires-clause-number g c =
     let old = g.N.Nand.flash c.args.nand.now in

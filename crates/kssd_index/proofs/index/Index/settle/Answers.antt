@@ -84,16 +84,6 @@ begin_anew-requires-clause-next g c =
     let age = age_is parts.page parts.anchor old.image h.anchored.newest in
     h.next ∙ ap (λ (w : Walk). w.next) (sym after.stays.log)
 
-pub begin_anew-requires-clause-few : goal.begin_anew-requires-clause-few
-begin_anew-requires-clause-few g c =
-    let old = g.N.Nand.flash c.args.nand.now in
-    let mid = g.N.Nand.flash c.write_shown.new.nand in
-    let parts = c.args.parts in
-    let h = c.requires.parts in
-    let after = after_base parts.page parts.anchor parts.levels old.blocks old.image mid.image h.anchored h.runs c.in_ok-run.ensures.named in
-    let age = age_is parts.page parts.anchor old.image h.anchored.newest in
-    omega (arith, c.requires.few, ap (λ (w : Walk). turn_count w.pages) after.stays.log)
-
 pub begin_anew-requires-clause-number : goal.begin_anew-requires-clause-number
 begin_anew-requires-clause-number g c =
     let old = g.N.Nand.flash c.args.nand.now in
