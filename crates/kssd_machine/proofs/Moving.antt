@@ -8,7 +8,7 @@ use Rattle.std.specs.declared.cmp.Ordering.TheVariants.{Less, Equal, Greater}
 use Rattle.std.proofs.lemmas.Bool.{and_parts, and_from, leb-true, eqb-true, eq-eqb, ne_eqb, le-leb, lt-ltb, ltb-true, cases_eq, cases_lt}
 use Rattle.std.proofs.lemmas.Option.{none-some, same_Some}
 use Rattle.std.proofs.lemmas.List.{get_or_append_left, get_or-append_right}
-use Rattle.kv_nand.specs.Flash.{Image}
+use Rattle.kv_nand.specs.Flash.{Flash, Image}
 use Rattle.kssd_entry.specs.declared.entry.Entry.{Entry}
 use Rattle.kssd_entry.specs.declared.entry.Entry.TheVariants.{Put, At, Gone}
 use Rattle.kssd_entry.specs.Spelling.{key_of}
@@ -33,7 +33,7 @@ use Rattle.kssd_reclaim.specs.declared.copies.CopyOf.{CopyOf}
 use Rattle.kssd_reclaim.specs.declared.reclaim.Reclaim.{Reclaim}
 use Rattle.kssd_reclaim.specs.Sources.{is_visible, move_of}
 use Rattle.kssd_reclaim.specs.Reclaim.{block_of, next_of, copies_of, moves_of, IsAhead, AllCopied, IsCopy, Collects}
-use Rattle.kssd_reclaim.specs.Steps.{Steps}
+use Rattle.kssd_reclaim.specs.Steps.{Begins, CopiesNext, Steps}
 use Rattle.kssd_machine.specs.Names.{names, times, times_pending, are_rising}
 use Rattle.kssd_machine.specs.Machines.{pending_in}
 use Rattle.kssd_machine.specs.Sizes.{listed, replaced, keys_differ}
@@ -370,36 +370,33 @@ added cs copy rising below i j d less low =
           subst (λ (c : CopyOf). c.target < (get_or (cs ++ copy ∷ []) j d).target) (sym first) (subst (λ (c : CopyOf). (get_or cs i d).target < c.target) (sym second) (below i d (omega arith)))
     ]
 
-pub targets_kept : (old new : Reclaim) (v w : Values) (image : Image) → Steps old v new w → Collects old v image → HasTargets old v → HasTargets new w
-targets_kept old new v w image steps collects targets = elim (copied_or_not old v) [
-  | inl all ↦ let idle = steps.idle all in subst (λ (x : Values). HasTargets new x) (sym idle.1) (kept_by old new v v targets idle.0.copies targets.dead)
-  | inr more ↦ by more (has_target v) refl
+pub targets_kept : (old new : Reclaim) (v w : Values) (before after : Flash) → Steps old v before new w after → Collects old v before.image → HasTargets old v → HasTargets new w
+targets_kept old new v w before after steps collects targets = elim steps [
+  | inl idle ↦ subst (λ (x : Values). HasTargets new x) (sym idle.values) (kept_by old new v v targets idle.waits.copies targets.dead)
+  | inr more ↦ elim more [
+    | inl begins ↦ begun begins
+    | inr copies ↦ copied copies
+  ]
 ]
   where
-    begins : (AllCopied old v → ⊥) → has_target v ≡ false → HasTargets new w
-    begins more none =
-        let step = steps.begins more none in
-        let taken = step.1.begins refl in
+    begun : Begins old v before new w after → HasTargets new w
+    begun step =
+        let taken = step.values.begins refl in
         let takes = taken.2.2 in
-        kept_by old new v w targets step.0.copies (λ page is. elim (cases_eq (page / 32) taken.2.0) [
-          | inl here ↦ step.1.marks page ∙ is_dead (mark_at v page) (v.sound.dead page (ap (λ b. get_or v.free.items b false) here ∙ is_free v taken.2.0 takes.was))
-          | inr away ↦ step.1.marks page ∙ targets.dead page (sym (takes.others (page / 32) away) ∙ is)
+        kept_by old new v w targets step.waits.copies (λ page is. elim (cases_eq (page / 32) taken.2.0) [
+          | inl here ↦ step.values.marks page ∙ is_dead (mark_at v page) (v.sound.dead page (ap (λ b. get_or v.free.items b false) here ∙ is_free v taken.2.0 takes.was))
+          | inr away ↦ step.values.marks page ∙ targets.dead page (sym (takes.others (page / 32) away) ∙ is)
         ])
 
-    copies : (AllCopied old v → ⊥) → has_target v ≡ true → HasTargets new w
-    copies more some =
-        let step = steps.copies more some in
-        let copy = step.0 in
-        let on = step.1.values.goes_on copy.target refl in
+    copied : CopiesNext old v before new w after → HasTargets new w
+    copied step =
+        let copy = step.copy in
+        let on = step.values.goes_on copy.target refl in
         record {
-          dead = λ page is. step.1.values.marks page ∙ targets.dead page (sym (on.blocks.states (page / 32)) ∙ is);
-          rising = λ i j d less low. subst (λ (cs : List CopyOf). (get_or cs i d).target < (get_or cs j d).target) (sym step.1.copies)
-              (added (copies_of old) copy targets.rising (λ k e within. before_next v (get_or (copies_of old) k e).target copy.target (collects.each k e within).filled on.here on.place) i j d less (subst (λ (cs : List CopyOf). j < length cs) step.1.copies low));
+          dead = λ page is. step.values.marks page ∙ targets.dead page (sym (on.blocks.states (page / 32)) ∙ is);
+          rising = λ i j d less low. subst (λ (cs : List CopyOf). (get_or cs i d).target < (get_or cs j d).target) (sym step.copies)
+              (added (copies_of old) copy targets.rising (λ k e within. before_next v (get_or (copies_of old) k e).target copy.target (collects.each k e within).filled on.here on.place) i j d less (subst (λ (cs : List CopyOf). j < length cs) step.copies low));
         }
-
-    by : (AllCopied old v → ⊥) → (b : Bool) → has_target v ≡ b → HasTargets new w
-    by more false none = begins more none
-    by more true some = copies more some
 
 -- ---- pending changes
 

@@ -1,7 +1,7 @@
 -- The moves of a collection as changes of entries.
 use Rattle.std.specs.Prelude.{◌≡◌, ◌<◌, ◌≤◌, ◌+◌, ◌/◌, ◌==◌, ℕ, true, List, length, filter, get_or}
 use Rattle.std.specs.List.{AllByRecursion, list_any, list_all}
-use Rattle.kv_nand.specs.Flash.{Image}
+use Rattle.kv_nand.specs.Flash.{Flash, Image}
 use Rattle.kssd_entry.specs.declared.entry.Entry.{Entry}
 use Rattle.kssd_model.specs.Rising.{is_rising, merged}
 use Rattle.kssd_image.specs.Stages.{without_marks, shown_in}
@@ -41,7 +41,7 @@ pub record AreMoves (r : Reclaim) (v : Values) (image : Image) (moves : List Ent
 
 -- a collection's steps keep its targets, and its moves are such
 pub record CollectionsMove : Type 0 where
-  pub step : (old new : Reclaim) (v w : Values) (image : Image) → Steps old v new w → Collects old v image → HasTargets old v → HasTargets new w
+  pub step : (old new : Reclaim) (v w : Values) (before after : Flash) → Steps old v before new w after → Collects old v before.image → HasTargets old v → HasTargets new w
   pub moves : (r : Reclaim) (v : Values) (image : Image) (lists : Transactions) → AreMarked v (shown_in image) lists → list_all (has_its_value (device_of v) image) (shown_in image) ≡ true → Collects r v image → HasTargets r v → AreMoves r v image (moves_of r v)
   pub repointed : (image : Image) (lists : Transactions) (page other : ℕ) → image other ≡ image page → pending_in image (all_repointed page other lists) ≡ pending_in image lists
 
