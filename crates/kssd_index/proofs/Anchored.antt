@@ -1,5 +1,5 @@
 -- What the stages of an image are where its newest anchor is known.
-use Rattle.std.proofs.Common.{◌≡◌, ℕ, ◌≤◌, true, Some, refl, sym, ap, subst, inl}
+use Rattle.std.proofs.Common.{◌≡◌, ℕ, ◌≤◌, Some, refl, sym, ap, subst, inl}
 use Rattle.std.specs.Prelude.{is_some}
 use Rattle.kv_nand.specs.Flash.{Image}
 use Rattle.kssd_entry.specs.declared.entry.Entry.{Entry}

@@ -1,17 +1,15 @@
 -- What a group leaves of an index, whole or torn.
-use Rattle.std.proofs.Common.{true, ◌≡◌, ◌∙◌, ◌⊎◌, ℕ, suc, ◌+◌, ◌-◌, ◌*◌, ◌/◌, ◌%◌, ◌<◌, ◌≤◌, ◌^◌, max, List, [], ◌∷◌, ◌++◌, length, refl, sym, ap, subst, arith, inl, inr, append-nil, length-append}
+use Rattle.std.proofs.Common.{true, ◌≡◌, ◌∙◌, ℕ, ◌+◌, ◌-◌, ◌*◌, ◌/◌, ◌%◌, ◌<◌, ◌≤◌, ◌^◌, max, List, [], ◌∷◌, ◌++◌, length, sym, ap, subst, arith, inl, inr, append-nil, length-append}
 use Rattle.std.proofs.lemmas.Bool.{and_parts, leb-true}
-use Rattle.kv_nand.specs.Flash.{Image, Flash, IsSound}
+use Rattle.kv_nand.specs.Flash.{Image, Flash}
 use Rattle.kssd_layout.specs.Numbers.{max_keys_in, max_pages_in}
 use Rattle.kssd_entry.specs.declared.entry.Entry.{Entry}
-use Rattle.kssd_model.specs.declared.anchor.Anchor.{Anchor}
 use Rattle.kssd_model.specs.Rising.{is_rising, merged}
 use Rattle.kssd_model.specs.Groups.{Walk, HasLog, seen, Ends, rest_from, turn_count, key_set}
 use Rattle.kssd_model.specs.GroupsLaws.{HasBytes}
 use Rattle.kssd_model.proofs.GroupsWalks.{log_in_is, log_from_walk}
-use Rattle.kssd_image.specs.Stages.{entries_of, shown_by, shown_in}
-use Rattle.kssd_image.specs.AnchorForm.{anchor_age}
-use Rattle.kssd_image.specs.Whole.{log_of, pages_named, age_by, age_in}
+use Rattle.kssd_image.specs.Stages.{entries_of, shown_in}
+use Rattle.kssd_image.specs.Whole.{log_of, pages_named, age_in}
 use Rattle.kssd_log.specs.declared.place.Place.{Place}
 use Rattle.kssd_log.specs.Ring.{IsRingPage, IsBehind, room_of, turns_for}
 use Rattle.kssd_log.specs.Append as ring
@@ -21,8 +19,8 @@ use Rattle.kssd_frames.proofs.Lookups.{merge_more}
 use Rattle.kssd_frames.proofs.SameImages.{log_ends_in_ring}
 use Rattle.kssd_frames.proofs.Groups.{keys_are_entries}
 use Rattle.kssd_index.specs.declared.index.Index.{Index}
-use Rattle.kssd_index.specs.Standing.{IsAnchored, EndsAt, IsIndex, table_of, index_age}
-use Rattle.kssd_index.specs.Mapping.{with_entries, SameValues, IsBeforeOrAfter}
+use Rattle.kssd_index.specs.Standing.{EndsAt, IsIndex}
+use Rattle.kssd_index.specs.Mapping.{with_entries, IsBeforeOrAfter}
 use Rattle.kssd_index.specs.Costs.{has_place_in}
 use Rattle.kssd_index.proofs.Anchored.{shown_is, age_is, has_index}
 use Rattle.kssd_index.proofs.Counting.{merged_few}
@@ -57,7 +55,7 @@ pub record IsPlaced (index : Index) (blocks : ℕ) (image : Image) (entries : Li
   pub place : has_place_in index entries ≡ true
   pub keys : length (with_entries (shown_in image) entries) ≤ max_keys_in blocks
   pub pages : length (pages_named (with_entries (shown_in image) entries)) ≤ max_pages_in blocks
-  pub low : index.age < 2 ^ 63 - 2 ^ 38
+  pub low : index.age + 2 ^ 20 ≤ 2 ^ 63
 
 pub record HasNumbers (index : Index) (image : Image) (entries : List Entry) : Type 0 where
   pub room : pages_of entries ≤ room_of index.ring
@@ -82,7 +80,7 @@ has_numbers index blocks image entries h =
       most = turns.1;
     }
 
-pub number_low : (index : Index) (blocks : ℕ) (image : Image) → IsIndex index blocks image → index.age < 2 ^ 63 - 2 ^ 38 → index.ring.seq < 2 ^ 63
+pub number_low : (index : Index) (blocks : ℕ) (image : Image) → IsIndex index blocks image → index.age + 2 ^ 20 ≤ 2 ^ 63 → index.ring.seq < 2 ^ 63
 number_low index blocks image h low = omega (arith, h.numbers, h.log.number)
 
 -- ---- keys

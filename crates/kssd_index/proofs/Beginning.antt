@@ -1,5 +1,5 @@
 -- A log that begins in a block whose pages are Erased.
-use Rattle.std.proofs.Common.{true, ◌≡◌, ◌∙◌, ◌⊎◌, ℕ, zero, suc, ◌+◌, ◌-◌, ◌*◌, ◌/◌, ◌<◌, ◌≤◌, ◌^◌, max, List, [], ◌∷◌, length, map, refl, sym, ap, subst, arith}
+use Rattle.std.proofs.Common.{true, ◌≡◌, ◌∙◌, ℕ, ◌+◌, ◌-◌, ◌*◌, ◌/◌, ◌<◌, ◌≤◌, ◌^◌, max, List, [], ◌∷◌, length, refl, sym, ap, subst, arith}
 use Rattle.std.specs.List.{All}
 use Rattle.std.proofs.lemmas.List.Elements.{All-head, All-tail}
 use Rattle.kv_nand.specs.Flash.{Image, Erased}
@@ -10,10 +10,9 @@ use Rattle.kssd_model.specs.Rising.{merged}
 use Rattle.kssd_model.proofs.GroupsWalks.{log_in_is}
 use Rattle.kssd_image.specs.Stages.{entries_of, log_map, runs_map, merged_by}
 use Rattle.kssd_image.specs.AnchorForm.{IsAnchorForm, anchor_age, greatest, run_numbers}
-use Rattle.kssd_image.specs.Whole.{log_of, age_by, age_in}
+use Rattle.kssd_image.specs.Whole.{age_by, age_in}
 use Rattle.kssd_log.specs.Ring.{begun}
 use Rattle.kssd_log.specs.declared.place.Place.{Place}
-use Rattle.kssd_index.specs.declared.index.Index.{Index}
 use Rattle.kssd_index.specs.declared.parts.IndexParts.{IndexParts}
 use Rattle.kssd_index.specs.Standing.{EndsAt, table_of, IsIndex, AreParts, IsFit, is_clean}
 use Rattle.kssd_index.proofs.Anchored.{age_is}

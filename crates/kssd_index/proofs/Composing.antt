@@ -1,27 +1,26 @@
 -- A run of all visible entries, and an index that begins anew on it.
-use Rattle.std.proofs.Common.{true, ◌≡◌, ◌≢◌, ◌∙◌, ℕ, ◌+◌, ◌-◌, ◌*◌, ◌/◌, ◌<◌, ◌≤◌, ◌^◌, max, List, [], ◌∷◌, ◌++◌, length, get_or, Some, refl, sym, ap, subst, arith, inl, inr, eq-eqb}
+use Rattle.std.proofs.Common.{true, ◌≡◌, ◌≢◌, ◌∙◌, ℕ, ◌-◌, ◌/◌, ◌≤◌, max, List, length, get_or, refl, sym, ap, subst, arith, eq-eqb}
 use Rattle.std.specs.Prelude.{nat_eq}
 use Rattle.std.specs.List.{All, Contains, list_any}
 use Rattle.std.proofs.lemmas.List.Folds.{list_any_at}
-use Rattle.kv_nand.specs.Flash.{Image, Flash}
-use Rattle.kssd_layout.specs.Numbers.{region_in, first_value_block_in, max_keys_in}
+use Rattle.kv_nand.specs.Flash.{Image}
+use Rattle.kssd_layout.specs.Numbers.{region_in, max_keys_in}
 use Rattle.kssd_layout.specs.declared.region.Region.{Region}
 use Rattle.kssd_layout.specs.declared.region.Region.TheVariants as regions
 use Rattle.kssd_entry.specs.declared.entry.Entry.{Entry}
 use Rattle.kssd_model.specs.declared.anchor.Anchor.{Anchor}
-use Rattle.kssd_model.specs.declared.runs.RunInfo.{RunInfo}
 use Rattle.kssd_model.specs.Rising.{merged}
 use Rattle.kssd_model.specs.RunPages.{run_page}
-use Rattle.kssd_model.specs.Groups.{Walk, turn_count}
+use Rattle.kssd_model.specs.Groups.{Walk}
 use Rattle.kssd_image.specs.Stages.{runs_map, without_marks, merged_by, shown_by}
 use Rattle.kssd_image.specs.AnchorForm.{blocks_of, anchor_age}
-use Rattle.kssd_image.specs.Whole.{log_of, age_by, age_in}
+use Rattle.kssd_image.specs.Whole.{age_by, age_in}
 use Rattle.kssd_run.specs.declared.reader.Run.{Run}
 use Rattle.kssd_levels.specs.declared.levels.Levels.{Levels}
 use Rattle.kssd_levels.specs.Levels.{levels_map, named_blocks}
-use Rattle.kssd_frames.specs.Same.{as_counted, IsSameAt, StaysBy}
+use Rattle.kssd_frames.specs.Same.{as_counted, StaysBy}
 use Rattle.kssd_frames.proofs.SameImages.{newest_in_alike, index_stays}
-use Rattle.kssd_frames.proofs.Places.{IsNamedRunPage, run_pages_named, region_of_anchors, region_of_log, region_of_values}
+use Rattle.kssd_frames.proofs.Places.{run_pages_named, region_of_anchors, region_of_log, region_of_values}
 use Rattle.kssd_index.specs.Standing.{IsAnchored, AreRuns, table_of}
 use Rattle.kssd_index.specs.Mapping.{SameValues, IsKept}
 use Rattle.kssd_index.specs.Anew.{KeepsNamed, IsBaseOf}

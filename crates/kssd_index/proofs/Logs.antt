@@ -1,29 +1,28 @@
 -- What a change of the ring leaves of an index.
-use Rattle.std.proofs.Common.{true, ◌≡◌, ◌∙◌, ◌⊎◌, ℕ, ◌+◌, ◌-◌, ◌*◌, ◌/◌, ◌<◌, ◌≤◌, ◌^◌, max, List, [], ◌∷◌, ◌++◌, length, refl, sym, ap, subst, arith, inl, inr, append-nil}
+use Rattle.std.proofs.Common.{◌≡◌, ◌∙◌, ℕ, ◌-◌, ◌*◌, ◌<◌, ◌≤◌, ◌^◌, max, List, [], ◌∷◌, ◌++◌, length, refl, sym, ap, subst, arith, inl, inr, append-nil}
 use Rattle.std.specs.List.{All}
 use Rattle.std.proofs.lemmas.List.Concat.{flat_map-append}
 use Rattle.kv_nand.specs.Flash.{Image, Flash, IsPageState, IsSound}
-use Rattle.kssd_layout.specs.Numbers.{max_keys_in, max_pages_in, first_value_block_in}
+use Rattle.kssd_layout.specs.Numbers.{max_keys_in, max_pages_in}
 use Rattle.kssd_entry.specs.declared.entry.Entry.{Entry}
 use Rattle.kssd_model.specs.declared.anchor.Anchor.{Anchor}
 use Rattle.kssd_model.specs.Anchors.{newest_in}
-use Rattle.kssd_model.specs.Rising.{is_rising, merged}
+use Rattle.kssd_model.specs.Rising.{merged}
 use Rattle.kssd_model.specs.Groups.{Walk, HasLog, log_in, key_set}
 use Rattle.kssd_model.specs.GroupsLaws.{HasBytes}
-use Rattle.kssd_model.proofs.GroupsWalks.{log_in_is, groups_in_log, log_from_walk}
+use Rattle.kssd_model.proofs.GroupsWalks.{log_in_is, groups_in_log}
 use Rattle.kssd_image.specs.Stages.{entries_of, log_map, runs_map, without_marks, merged_by, shown_by}
 use Rattle.kssd_image.specs.AnchorForm.{IsAnchorForm, anchor_age}
-use Rattle.kssd_image.specs.Whole.{log_of, IsLogWhole, pages_named, IsIndexOf, age_by}
+use Rattle.kssd_image.specs.Whole.{IsLogWhole, pages_named, age_by}
 use Rattle.kssd_log.specs.Append.{StaysOutside}
-use Rattle.kssd_frames.specs.Same.{IsSameAt, as_counted}
+use Rattle.kssd_frames.specs.Same.{as_counted}
 use Rattle.kssd_frames.specs.Logging.{groups_by}
 use Rattle.kssd_frames.proofs.Lookups.{merge_more, merge_three, marks_below}
 use Rattle.kssd_frames.proofs.ShownLaws.{runs_rise, log_rises, merged_rises}
 use Rattle.kssd_frames.proofs.SameImages.{IsSameRun, newest_in_alike, runs_alike, index_from}
 use Rattle.kssd_frames.proofs.SparePages.{runs_outside}
 use Rattle.kssd_frames.proofs.Groups.{log_is_whole}
-use Rattle.kssd_index.specs.declared.index.Index.{Index}
-use Rattle.kssd_index.specs.Standing.{IsAnchored, EndsAt, table_of}
+use Rattle.kssd_index.specs.Standing.{IsAnchored, table_of}
 use Rattle.kssd_index.specs.Mapping.{with_entries, SameValues}
 
 pub has_bytes : (flash : Flash) → IsSound flash → HasBytes flash.image

@@ -1,6 +1,6 @@
 -- Looking for visible entries.
 use Rattle.std.proofs.Common.{true, false, ◌≡◌, ◌∙◌, ℕ, ◌*◌, ◌≤◌, Bool, not, cond, List, [], ◌∷◌, ◌++◌, length, take, Option, Some, None, refl, sym, ap, arith}
-use Rattle.std.specs.Prelude.{filter, option_to_list}
+use Rattle.std.specs.Prelude.{option_to_list}
 use Rattle.std.proofs.lemmas.List.{take_all}
 use Rattle.kv_nand.specs.Flash.{Image}
 use Rattle.kssd_entry.specs.declared.entry.Entry.{Entry}
@@ -15,9 +15,9 @@ use Rattle.kssd_levels.proofs.FromKey.{from_merged, over_from}
 use Rattle.kssd_levels.proofs.Layers.{stand_join}
 use Rattle.kssd_frames.specs.Merging.{unmarked}
 use Rattle.kssd_frames.proofs.Lookups.{find_unmarked}
-use Rattle.kssd_frames.proofs.ShownLaws.{log_rises, runs_rise, merged_rises}
+use Rattle.kssd_frames.proofs.ShownLaws.{log_rises, runs_rise}
 use Rattle.kssd_index.specs.declared.index.Index.{Index}
-use Rattle.kssd_index.specs.Standing.{IsIndex, table_of}
+use Rattle.kssd_index.specs.Standing.{IsIndex}
 use Rattle.kssd_index.proofs.Anchored.{shown_is}
 
 -- what is shown by an index

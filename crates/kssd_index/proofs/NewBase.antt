@@ -1,13 +1,12 @@
 -- What holds when an index begins anew.
-use Rattle.std.proofs.Common.{true, false, ◌≡◌, ◌∙◌, ◌⊎◌, ℕ, zero, suc, ◌+◌, ◌-◌, ◌*◌, ◌/◌, ◌%◌, ◌<◌, ◌≤◌, ◌^◌, max, Bool, not, cond, eqb, leb, List, [], ◌∷◌, ◌++◌, length, map, filter, sum_by, Option, Some, refl, sym, ap, subst, arith, inl, inr}
+use Rattle.std.proofs.Common.{true, false, ◌≡◌, ◌∙◌, ℕ, ◌+◌, ◌-◌, ◌*◌, ◌/◌, ◌%◌, ◌<◌, ◌≤◌, ◌^◌, max, Bool, not, cond, eqb, List, [], ◌∷◌, ◌++◌, length, filter, sum_by, Option, Some, refl, sym, ap, subst, arith, inl, inr}
 use Rattle.std.specs.Prelude.{nat_eq, nat_le}
 use Rattle.std.specs.Option.{IsSomeAnd}
 use Rattle.std.proofs.lemmas.List.Sums.{sum_by-cons}
 use Rattle.std.specs.List.{All, list_any}
 use Rattle.std.proofs.lemmas.Bool.{cases_lt, cases_Bool}
-use Rattle.std.proofs.lemmas.List.Elements.{All-nil, All-cons, All-head, All-tail}
-use Rattle.kv_nand.specs.Flash.{Image, Flash, Erased, MayProgram, IsSound}
-use Rattle.kssd_layout.specs.Numbers.{max_keys_in, max_pages_in, first_value_block_in}
+use Rattle.std.proofs.lemmas.List.Elements.{All-nil, All-cons}
+use Rattle.kv_nand.specs.Flash.{Image, Flash, Erased}
 use Rattle.kssd_entry.specs.declared.entry.Entry.{Entry}
 use Rattle.kssd_model.specs.declared.anchor.Anchor.{Anchor}
 use Rattle.kssd_model.specs.declared.runs.RunInfo.{RunInfo}
@@ -16,17 +15,17 @@ use Rattle.kssd_model.specs.AnchorSpelling.{HasSpelling, run_size}
 use Rattle.kssd_model.specs.Anchors.{newest_in}
 use Rattle.kssd_model.proofs.GroupsPaths.{next_in_ring}
 use Rattle.kssd_layout.specs.declared.layout.Layout.{Layout}
-use Rattle.kssd_model.specs.Rising.{is_rising, is_gone, merged}
+use Rattle.kssd_model.specs.Rising.{is_rising, is_gone}
 use Rattle.kssd_model.specs.RunPages.{run_page, run_entries, IsGoodRun}
-use Rattle.kssd_model.specs.Groups.{LogPage, Walk, Path, HasLog, WithinBlocks, next_place, stop, log_in, next_block, seen, Ends, AreAllowed, different_keys, logged, key_set, rest_from, turn_count}
+use Rattle.kssd_model.specs.Groups.{LogPage, Walk, Path, HasLog, WithinBlocks, next_place, log_in, next_block, seen, AreAllowed, logged, key_set, rest_from, turn_count}
 use Rattle.kssd_model.specs.GroupsLaws.{HasBytes}
 use Rattle.kssd_model.proofs.GroupsWalks.{log_in_is}
 use Rattle.kssd_image.proofs.LogDamage.{path_is_short, turns_within}
-use Rattle.kssd_image.specs.Stages.{runs_map, without_marks, merged_by, shown_by, shown_in, entries_of}
-use Rattle.kssd_image.specs.AnchorForm.{IsAnchorForm, IsRunForm, anchor_age, run_numbers, blocks_of}
+use Rattle.kssd_image.specs.Stages.{runs_map, without_marks, merged_by, shown_by, entries_of}
+use Rattle.kssd_image.specs.AnchorForm.{IsAnchorForm, anchor_age, run_numbers}
 use Rattle.kssd_image.specs.Whole.{log_of, IsLogWhole, pages_named, IsIndexOf, HasRoom, keys_from_level, age_by, age_in}
 use Rattle.kssd_run.specs.declared.reader.Run.{Run}
-use Rattle.kssd_run.specs.Run.{run_info, StandsRun}
+use Rattle.kssd_run.specs.Run.{run_info}
 use Rattle.kssd_run.proofs.Staying.{standing_runs_are_good, entries_stay, run_stays}
 use Rattle.kssd_levels.specs.declared.levels.Levels.{Levels}
 use Rattle.kssd_levels.specs.Levels.{infos_of, MayName, StandLevels}
@@ -38,21 +37,19 @@ use Rattle.kssd_log.specs.declared.place.Place.{Place}
 use Rattle.kssd_log.specs.Ring.{begun}
 use Rattle.kssd_log.specs.Append.{IsPlace, StaysOutside, KeepsLogs}
 use Rattle.kssd_anchor.specs.Places.{SameBehind, IsOldOrGiven, CanFollow}
-use Rattle.kssd_frames.specs.Same.{as_counted, IsSameIndex, StaysBy}
+use Rattle.kssd_frames.specs.Same.{as_counted, StaysBy}
 use Rattle.kssd_frames.specs.Logging.{groups_by}
-use Rattle.kssd_frames.proofs.Lookups.{merge_alone, rising_unmarked}
+use Rattle.kssd_frames.proofs.Lookups.{merge_alone}
 use Rattle.kssd_frames.proofs.ShownLaws.{shown_rises, all_logged}
 use Rattle.kssd_frames.proofs.SameImages.{index_stays, log_ends_in_ring}
 use Rattle.kssd_frames.proofs.SparePages.{runs_outside}
 use Rattle.kssd_frames.proofs.Groups.{log_stands}
-use Rattle.kssd_index.specs.declared.index.Index.{Index}
-use Rattle.kssd_index.specs.Standing.{IsAnchored, AreRuns, EndsAt, IsIndex, table_of}
-use Rattle.kssd_index.specs.Mapping.{HasIndex, SameValues, IsKept}
+use Rattle.kssd_index.specs.Standing.{IsAnchored, EndsAt, IsIndex}
+use Rattle.kssd_index.specs.Mapping.{SameValues, IsKept}
 use Rattle.kssd_index.specs.Anew.{IsBaseOf, following}
 use Rattle.kssd_index.proofs.Anchored.{shown_is, age_is, has_index}
 use Rattle.kssd_index.proofs.Beginning.{IsClean, clean_log, clean_merged, clean_table, clean_ends, anchor_age_is}
-use Rattle.kssd_index.proofs.Logs.{IsLogNow, KeepsBy, ring_keeps, ring_values}
-use Rattle.kssd_index.proofs.Runs.{named_is_run, runs_stand}
+use Rattle.kssd_index.proofs.Logs.{KeepsBy, ring_keeps, ring_values}
 
 -- ---- entries without marks
 
@@ -289,7 +286,7 @@ pub record IsBegun (page : ℕ) (anchor next : Anchor) (run : Run) (levels : Lev
   pub alone : IsAlone blocks run levels
   pub seq_is : next.log_seq ≡ (log_of old anchor).next
 
-pub seq_low : (anchor : Anchor) (image : Image) → age_by image anchor < 2 ^ 63 - 2 ^ 38 → (log_of image anchor).next < 2 ^ 63
+pub seq_low : (anchor : Anchor) (image : Image) → age_by image anchor + 2 ^ 20 ≤ 2 ^ 63 → (log_of image anchor).next < 2 ^ 63
 seq_low anchor image low = omega (arith, low)
 
 pub last_in_ring : (page : ℕ) (anchor : Anchor) (blocks : ℕ) (image : Image) (last : ℕ) → IsAnchored page anchor blocks image → last ≡ (log_of image anchor).end / 32 → (2 ≤ last) × (last ≤ 19)
@@ -306,7 +303,7 @@ clean_from flash block seq h q at = elim (cases_lt (32 * block) q) [
 
 pub is_begun : (page : ℕ) (anchor next : Anchor) (run : Run) (levels : Levels) (blocks : ℕ) (old : Image) (ready : Flash) (last : ℕ) → HasBytes old → IsAnchored page anchor blocks old
     → IsBaseOf run anchor.next_run (shown_by old anchor) blocks old → IsAlone blocks run levels → MayName (Rattle.kssd_levels.specs.Levels.device_of levels) (infos_of levels)
-    → last ≡ (log_of old anchor).end / 32 → age_by old anchor < 2 ^ 63 - 2 ^ 38
+    → last ≡ (log_of old anchor).end / 32 → age_by old anchor + 2 ^ 20 ≤ 2 ^ 63
     → KeepsLogs last old ready.image → StaysOutside old ready.image → IsPlace ready (begun (next_block last) (log_of old anchor).next)
     → next ≡ following anchor (infos_of levels) (next_block last) (log_of old anchor).next
     → IsBegun page anchor next run levels blocks old ready.image
@@ -422,7 +419,7 @@ new_index page place anchor next run levels layout old ready new table ring age 
 
 -- ---- the anchor's spelling
 
-pub spelled : (page : ℕ) (anchor next : Anchor) (run : Run) (levels : Levels) (blocks : ℕ) (old ready : Image) → IsBegun page anchor next run levels blocks old ready → age_by old anchor < 2 ^ 63 - 2 ^ 38 → HasSpelling next
+pub spelled : (page : ℕ) (anchor next : Anchor) (run : Run) (levels : Levels) (blocks : ℕ) (old ready : Image) → IsBegun page anchor next run levels blocks old ready → age_by old anchor + 2 ^ 20 ≤ 2 ^ 63 → HasSpelling next
 spelled page anchor next run levels blocks old ready h low =
     let r = h.ready_is in
     let number : next.number ≡ anchor.number + 1 = ap (λ (a : Anchor). a.number) r.follows in
@@ -446,7 +443,7 @@ can_follow page anchor next run levels blocks old ready h =
 
 -- ---- the ring's block is erased or half erased
 
-pub ring_left : (page : ℕ) (anchor : Anchor) (blocks : ℕ) (old new : Image) (last : ℕ) → HasBytes old → IsAnchored page anchor blocks old → last ≡ (log_of old anchor).end / 32 → age_by old anchor < 2 ^ 63 - 2 ^ 38
+pub ring_left : (page : ℕ) (anchor : Anchor) (blocks : ℕ) (old new : Image) (last : ℕ) → HasBytes old → IsAnchored page anchor blocks old → last ≡ (log_of old anchor).end / 32 → age_by old anchor + 2 ^ 20 ≤ 2 ^ 63
     → KeepsLogs last old new → StaysOutside old new → IsKeptAt blocks old new (age_by old anchor + 1)
 ring_left page anchor blocks old new last has h at low keeps outside =
     let k = log_kept page anchor blocks old new last has h (sym at) (omega (arith, seq_low anchor old low)) keeps outside in

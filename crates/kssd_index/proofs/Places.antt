@@ -1,11 +1,10 @@
 -- A new log and a new table have place for each group.
-use Rattle.std.proofs.Common.{true, ◌≡◌, ◌∙◌, ℕ, suc, ◌+◌, ◌-◌, ◌*◌, ◌%◌, ◌<◌, ◌≤◌, leb, List, [], ◌∷◌, ◌++◌, length, refl, sym, ap, arith, inl, inr}
+use Rattle.std.proofs.Common.{true, ◌≡◌, ◌∙◌, ℕ, ◌+◌, ◌-◌, ◌*◌, ◌%◌, ◌≤◌, List, [], ◌∷◌, length, ap, arith, inl, inr}
 use Rattle.std.specs.List.{AllByRecursion}
 use Rattle.std.proofs.lemmas.Bool.{cases_lt, and_from, le-leb}
 use Rattle.kssd_entry.specs.declared.entry.Entry.{Entry}
 use Rattle.kssd_entry.specs.Spelling.{entry_bytes, FitsEntry}
 use Rattle.kssd_model.specs.Rising.{merged}
-use Rattle.kssd_log.specs.declared.place.Place.{Place}
 use Rattle.kssd_log.specs.Ring.{begun, room_of}
 use Rattle.kssd_log.specs.Append.{pages_more, pages_of}
 use Rattle.kssd_log.proofs.Counting.{entry_bound, pages_same, pages_next, no_pages}

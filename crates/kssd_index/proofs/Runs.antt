@@ -1,5 +1,5 @@
 -- Runs stand where their pages stay.
-use Rattle.std.proofs.Common.{true, false, ◌≡◌, ◌∙◌, ℕ, ◌/◌, ◌≤◌, Bool, ◌||◌, List, [], ◌∷◌, ◌++◌, refl, sym, ap, subst, arith, inl, inr}
+use Rattle.std.proofs.Common.{true, ◌≡◌, ◌∙◌, ℕ, ◌/◌, List, [], ◌∷◌, sym, ap, subst, arith, inl, inr}
 use Rattle.std.specs.Prelude.{nat_eq}
 use Rattle.std.specs.List.{All, list_any}
 use Rattle.std.proofs.lemmas.Bool.{or_cases, eqb-true, false≢true}
@@ -13,7 +13,6 @@ use Rattle.kssd_model.specs.declared.runs.RunInfo.{RunInfo}
 use Rattle.kssd_image.specs.AnchorForm.{IsAnchorForm, IsRunForm, blocks_of}
 use Rattle.kssd_merge.specs.Same.{AreSameIn}
 use Rattle.kssd_levels.specs.declared.levels.Levels.{Levels}
-use Rattle.kssd_levels.specs.Levels.{named_blocks}
 use Rattle.kssd_levels.proofs.Staying.{levels_stay}
 use Rattle.kssd_log.specs.Append.{StaysOutside}
 use Rattle.kssd_frames.proofs.Places.{run_is_behind}

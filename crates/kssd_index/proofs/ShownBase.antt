@@ -1,21 +1,21 @@
 -- A base of all visible entries.
-use Rattle.std.proofs.Common.{true, false, ◌≡◌, ◌∙◌, ℕ, zero, suc, ◌+◌, ◌*◌, ◌/◌, ◌%◌, ◌<◌, ◌≤◌, Bool, eqb, List, [], ◌∷◌, ◌++◌, length, take, get_or, refl, sym, ap, subst, arith, inl, inr, length-take}
+use Rattle.std.proofs.Common.{true, false, ◌≡◌, ◌∙◌, ℕ, zero, suc, ◌+◌, ◌/◌, ◌<◌, ◌≤◌, List, length, get_or, sym, ap, subst, arith, inl, inr, length-take}
 use Rattle.std.specs.Prelude.{nat_eq}
-use Rattle.std.specs.List.{All, IsDistinct, list_any}
+use Rattle.std.specs.List.{All, list_any}
 use Rattle.std.proofs.lemmas.Bool.{cases_Bool, false≢true}
 use Rattle.std.proofs.lemmas.List.Elements.{All-from_get_or}
-use Rattle.kv_nand.specs.Flash.{Image, Flash}
-use Rattle.kssd_layout.specs.Numbers.{region_in, base_blocks_in, max_keys_in, run_blocks_in}
+use Rattle.kv_nand.specs.Flash.{Image}
+use Rattle.kssd_layout.specs.Numbers.{region_in, base_blocks_in, max_keys_in}
 use Rattle.kssd_layout.specs.declared.region.Region.TheVariants as regions
 use Rattle.kssd_layout.specs.declared.layout.Layout.{Layout}
 use Rattle.kssd_entry.specs.declared.entry.Entry.{Entry}
-use Rattle.kssd_model.specs.RunPages.{AreRunBlocks, run_page, run_entries, joined, page_entries}
-use Rattle.kssd_image.specs.AnchorForm.{IsRunForm, most_entries}
+use Rattle.kssd_model.specs.RunPages.{AreRunBlocks, joined, page_entries}
+use Rattle.kssd_image.specs.AnchorForm.{most_entries}
 use Rattle.kssd_run.specs.declared.reader.Run.{Run}
 use Rattle.kssd_run.specs.Run.{run_info}
 use Rattle.kssd_run.proofs.RunBlocks.{first_run_blocks}
 use Rattle.kssd_levels.specs.declared.levels.Levels.{Levels}
-use Rattle.kssd_levels.specs.Levels.{device_of, named_blocks, free_blocks_of}
+use Rattle.kssd_levels.specs.Levels.{device_of, free_blocks_of}
 use Rattle.kssd_levels.proofs.Spare.{job_blocks_suffice}
 use Rattle.kssd_frames.proofs.Places.{run_is_behind}
 use Rattle.kssd_index.specs.Writing.{IsBase, StaysBeside}

@@ -1,5 +1,5 @@
 -- How the writing of a run goes on.
-use Rattle.std.proofs.Common.{true, false, ◌≡◌, ◌∙◌, ℕ, ◌+◌, ◌-◌, ◌*◌, ◌/◌, ◌<◌, ◌≤◌, ◌^◌, Bool, List, [], ◌∷◌, ◌++◌, length, refl, sym, ap, subst, arith, append-nil, append_assoc, length-append, take, Option, Some, None, not, cond, inl, inr}
+use Rattle.std.proofs.Common.{true, false, ◌≡◌, ◌∙◌, ℕ, ◌+◌, ◌-◌, ◌*◌, ◌/◌, ◌<◌, ◌≤◌, ◌^◌, Bool, List, [], ◌∷◌, ◌++◌, length, refl, sym, ap, subst, arith, append-nil, append_assoc, length-append, take, Option, Some, not, cond, inl, inr}
 use Rattle.std.proofs.lemmas.Bool.{cases_lt}
 use Rattle.std.specs.Prelude.{nat_eq, option_to_list}
 use Rattle.std.specs.List.{list_any}
@@ -8,7 +8,7 @@ use Rattle.kv_base.specs.Counts.{one_more}
 use Rattle.kv_nand.specs.Working.{worked, Works, Stops, StopsBy}
 use Rattle.kv_nand.specs.declared.fault.FlashFault.{FlashFault}
 use Rattle.kv_nand.specs.declared.fault.FlashFault.TheVariants as faults
-use Rattle.kv_nand.proofs.Chaining.{works_then_works, works_then_stops, works_within, stops_within, works_still}
+use Rattle.kv_nand.proofs.Chaining.{works_then_works, works_then_stops, works_within, works_still}
 use Rattle.kssd_entry.specs.declared.entry.Entry.{Entry}
 use Rattle.kssd_model.specs.Rising.{is_rising, is_gone}
 use Rattle.kssd_model.specs.OnlyReading.{OnlyReads, ReadStopsBy, StopsReading}
@@ -19,7 +19,7 @@ use Rattle.kssd_run.specs.declared.reader.Run.{Run}
 use Rattle.kssd_run.specs.Run.{run_info}
 use Rattle.kssd_run.proofs.Opened.{place_within}
 use Rattle.kssd_model.specs.RunPages.{AreRunBlocks}
-use Rattle.kssd_run.specs.Writing.{Writes, CanStep, IsWritten, IsStarted, page_waits, is_closed, pages_written, run_blocks, entries_fed}
+use Rattle.kssd_run.specs.Writing.{Writes, CanStep, IsWritten, IsStarted, is_closed, pages_written, run_blocks, entries_fed}
 use Rattle.kssd_run.proofs.GoingOn.{rising_first}
 use Rattle.kssd_index.specs.Writing.{StaysBeside, AreApart, steps_of, most_steps, GoesOn, PutsPage, Closes, IsBase}
 

@@ -1,5 +1,5 @@
 -- A base of all visible entries, and an index that begins anew on it.
-use Rattle.std.specs.Prelude.{◌≡◌, ◌<◌, ◌≤◌, ◌+◌, ◌/◌, ℕ, true, nat_eq, List, [], length}
+use Rattle.std.specs.Prelude.{◌≡◌, ◌<◌, ◌≤◌, ◌+◌, ◌/◌, ℕ, true, nat_eq, List, length}
 use Rattle.std.specs.List.{list_any, IsDistinct}
 use Rattle.kv_nand.specs.Flash.{Image}
 use Rattle.kssd_layout.specs.Numbers.{region_in}

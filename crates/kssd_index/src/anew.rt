@@ -1,5 +1,5 @@
 // An index that begins anew, on a base of all visible entries.
-ghost use Rattle.std.specs.Prelude.{◌≡◌, ◌≤◌, ◌<◌, ◌+◌, ◌-◌, ◌*◌, ◌/◌, ◌^◌, [], true, length, IfOk, OnOk, IfErr};
+ghost use Rattle.std.specs.Prelude.{◌≡◌, ◌≤◌, ◌<◌, ◌+◌, ◌*◌, ◌/◌, ◌^◌, [], true, length, IfOk, OnOk, IfErr};
 ghost use Rattle.kv_nand.specs.Working.{Works, Stops};
 ghost use Rattle.kssd_layout.specs.Numbers.{max_keys_in, base_blocks_in};
 ghost use Rattle.kssd_model.specs.Rising.{is_rising, merged};
@@ -93,7 +93,7 @@ fn next_anchor(
     log_block: u16,
     log_seq: u64,
 ) -> Result<Anchor, Memory>
-    requires number { (anchor.now.number < 2 ^ 63 - 2 ^ 38) × (anchor.now.next_run < 2 ^ 63 - 2 ^ 38) }
+    requires number { (anchor.now.number + 2 ^ 20 ≤ 2 ^ 63) × (anchor.now.next_run + 2 ^ 20 ≤ 2 ^ 63) }
     ensures next { IfOk result (λ next. next ≡ following anchor.now (infos_of levels.now) log_block log_seq) }
     ensures named { OnOk result (MayName (device_of levels.now) (infos_of levels.now)) }
 {
@@ -124,7 +124,7 @@ pub fn begin_anew<N: Nand>(
     requires base { IsBaseOf run anchor.now.next_run (shown_by (N.flash nand.old).image anchor.now) (N.flash nand.old).blocks (N.flash nand.old).image }
     requires last { last_block ≡ (log_of (N.flash nand.old).image anchor.now).end / 32 }
     requires next { next_seq ≡ (log_of (N.flash nand.old).image anchor.now).next }
-    requires number { age_by (N.flash nand.old).image anchor.now < 2 ^ 63 - 2 ^ 38 }
+    requires number { age_by (N.flash nand.old).image anchor.now + 2 ^ 20 ≤ 2 ^ 63 }
     ensures stands { IfOk result (λ index. IsIndex index (N.flash nand.new).blocks (N.flash nand.new).image) }
     ensures ring { IfOk result (λ index. index_ring index ≡ begun (next_block last_block) next_seq) }
     ensures table { IfOk result (λ index. index_table index ≡ []) }

@@ -81,7 +81,7 @@ impl Index {
         requires place { has_place_in self.old entries.now ≡ true }
         requires keys { length (with_entries (shown_in (N.flash nand.old).image) entries.now) ≤ max_keys_in (N.flash nand.old).blocks }
         requires pages { length (pages_named (with_entries (shown_in (N.flash nand.old).image) entries.now)) ≤ max_pages_in (N.flash nand.old).blocks }
-        requires number { index_age self.old < 2 ^ 63 - 2 ^ 38 }
+        requires number { index_age self.old + 2 ^ 20 ≤ 2 ^ 63 }
         ensures stands { OnOk result (IsIndex self.new (N.flash nand.new).blocks (N.flash nand.new).image) }
         ensures shown { OnOk result (shown_in (N.flash nand.new).image ≡ with_entries (shown_in (N.flash nand.old).image) entries.now) }
         ensures kept { IsBeforeOrAfter (N.flash nand.old).blocks (N.flash nand.old).image entries.now (N.flash nand.new).image }

@@ -34,10 +34,9 @@ fn read_sizes(entries: &Entries)
 }
 
 impl Index {
-    ghost use Rattle.std.specs.Prelude.{◌≡◌, ◌≤◌, ◌<◌, ◌+◌, ◌-◌, ◌^◌, ℕ, true, length, IfOk, OnOk, OnErr, IfErr};
+    ghost use Rattle.std.specs.Prelude.{◌≡◌, ◌≤◌, ◌<◌, ◌+◌, ◌^◌, ℕ, true, length, IfOk, OnOk, OnErr, IfErr};
     ghost use Rattle.kv_nand.specs.Flash.{Image};
     ghost use Rattle.kv_nand.specs.Working.{Works, Stops};
-    ghost use Rattle.kssd_model.specs.Rising.{is_rising};
     ghost use Rattle.kssd_image.specs.Whole.{age_in};
     ghost use Rattle.kssd_index.specs.Standing.{IsIndex, AreParts, IsFit, is_clean, index_age};
     ghost use Rattle.kssd_index.specs.Mapping.{IsKept};
@@ -73,7 +72,7 @@ impl Index {
         parts: IndexParts,
     ) -> Result<Index, FlashFault>
         requires parts { AreParts parts (N.flash nand.old).blocks (N.flash nand.old).image }
-        requires number { age_in (N.flash nand.old).image < 2 ^ 63 - 2 ^ 38 }
+        requires number { age_in (N.flash nand.old).image + 2 ^ 20 ≤ 2 ^ 63 }
         ensures stands { IfOk result (λ index. IsIndex index (N.flash nand.new).blocks (N.flash nand.new).image) }
         ensures kept { IsKept (N.flash nand.old).blocks (N.flash nand.old).image (N.flash nand.new).image }
         ensures aged { age_in (N.flash nand.new).image ≤ age_in (N.flash nand.old).image + 1 }
@@ -111,8 +110,7 @@ impl Index {
     ) -> Result<(), FlashFault>
         requires stands { IsIndex self.old (N.flash nand.old).blocks (N.flash nand.old).image }
         requires size { length entries.now ≤ 640 }
-        requires rising { is_rising entries.now ≡ true }
-        requires number { index_age self.old < 2 ^ 63 - 2 ^ 38 }
+        requires number { index_age self.old + 2 ^ 20 ≤ 2 ^ 63 }
         ensures stands { OnOk result (IsIndex self.new (N.flash nand.new).blocks (N.flash nand.new).image) }
         ensures place { OnOk result (has_place_in self.new entries.now ≡ true) }
         ensures kept { IsKept (N.flash nand.old).blocks (N.flash nand.old).image (N.flash nand.new).image }

@@ -1,4 +1,4 @@
-use Rattle.std.proofs.Common.{◌≡◌, ◌∙◌, ℕ, max, sym, subst, ap, arith, refl}
+use Rattle.std.proofs.Common.{◌≡◌, ◌∙◌, ℕ, max, sym, subst, ap, arith}
 use Rattle.kv_nand.specs.Flash.{Flash}
 use Rattle.kssd_index.proofs.Anchored.{kept_still, age_is}
 use Rattle.kssd_index.proofs.Logs.{has_bytes}

@@ -1,4 +1,4 @@
-use Rattle.std.proofs.Common.{◌≡◌, ◌∙◌, [], None, ap}
+use Rattle.std.proofs.Common.{◌∙◌, [], None, ap}
 use Rattle.kssd_model.specs.Rising.{merged}
 use Rattle.kssd_levels.specs.Levels.{all_runs}
 use Rattle.kssd_levels.specs.Over.{over}

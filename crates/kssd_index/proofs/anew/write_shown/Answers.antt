@@ -1,11 +1,11 @@
-use Rattle.std.proofs.Common.{◌≡◌, ◌∙◌, ◌≤◌, ◌<◌, ◌*◌, ℕ, List, length, ap, sym, subst, arith}
-use Rattle.kv_nand.specs.Flash.{Flash, Image}
+use Rattle.std.proofs.Common.{◌≡◌, ◌∙◌, ◌≤◌, ℕ, List, length, ap, sym, subst, arith}
+use Rattle.kv_nand.specs.Flash.{Flash}
 use Rattle.kssd_entry.specs.declared.entry.Entry.{Entry}
 use Rattle.kssd_model.specs.Rising.{merged}
 use Rattle.kssd_model.specs.RunPages.{AreRunBlocks}
 use Rattle.kssd_image.specs.Stages.{without_marks}
 use Rattle.kssd_levels.specs.Streams.{stream_rest}
-use Rattle.kssd_levels.specs.Levels.{levels_map, device_of}
+use Rattle.kssd_levels.specs.Levels.{levels_map}
 use Rattle.kssd_index.specs.Writing.{IsBase}
 use Rattle.kssd_index.proofs.ShownBase.{enough_free, base_of, keeps_named}
 use Rattle.kssd_index.proofs.anew.write_shown.Goals as goal

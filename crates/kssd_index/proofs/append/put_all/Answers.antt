@@ -1,4 +1,4 @@
-use Rattle.std.proofs.Common.{◌≡◌, ◌∙◌, ◌<◌, List, length, take, ap, arith, inr}
+use Rattle.std.proofs.Common.{List, length, ap, arith, inr}
 use Rattle.kssd_entry.specs.declared.entry.Entry.{Entry}
 use Rattle.kssd_model.specs.Rising.{merged}
 use Rattle.kssd_index.proofs.Counting.{first_fewer}

@@ -1,4 +1,4 @@
-use Rattle.std.proofs.Common.{◌≡◌, length, take}
+use Rattle.std.proofs.Common.{◌≡◌, take}
 use Rattle.kssd_model.specs.Rising.{merged}
 use Rattle.kssd_index.proofs.append.put_all.Given as goal
 

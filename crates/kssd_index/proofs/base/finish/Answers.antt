@@ -1,4 +1,3 @@
-use Rattle.std.proofs.Common.{◌≡◌, sym, subst, ap}
 use Rattle.kssd_index.proofs.Steps.{finished}
 use Rattle.kssd_index.proofs.base.finish.Goals as goal
 

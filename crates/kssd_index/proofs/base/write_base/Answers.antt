@@ -1,4 +1,4 @@
-use Rattle.std.proofs.Common.{◌≡◌, ◌∙◌, ◌++◌, ◌∷◌, refl, sym, ap, arith}
+use Rattle.std.proofs.Common.{refl}
 use Rattle.std.proofs.lemmas.Result.{err_from_is_err_and}
 use Rattle.kssd_frames.proofs.Lookups.{rising_unmarked}
 use Rattle.kssd_index.proofs.Steps.{begins, source_step, feed_stops}

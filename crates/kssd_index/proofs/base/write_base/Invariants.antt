@@ -1,4 +1,4 @@
-use Rattle.std.proofs.Common.{◌≡◌, ℕ, length}
+use Rattle.std.proofs.Common.{◌≡◌, length}
 use Rattle.kssd_image.specs.Stages.{without_marks}
 use Rattle.kssd_index.proofs.Steps.{IsUnderWay}
 use Rattle.kssd_index.proofs.base.write_base.Given as goal

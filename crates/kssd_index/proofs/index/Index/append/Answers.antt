@@ -1,10 +1,7 @@
-use Rattle.std.proofs.Common.{◌≡◌, ◌∙◌, ◌+◌, ◌≤◌, ap, sym, subst, arith, ℕ}
-use Rattle.kv_nand.specs.Flash.{Flash, Image}
-use Rattle.kssd_image.specs.Whole.{age_in, age_by}
-use Rattle.kssd_index.specs.Mapping.{IsBeforeOrAfter}
-use Rattle.kssd_index.proofs.Anchored.{age_is}
+use Rattle.std.proofs.Common.{ap, arith}
+use Rattle.kv_nand.specs.Flash.{Flash}
 use Rattle.kssd_index.proofs.Logs.{has_bytes}
-use Rattle.kssd_index.proofs.Appending.{IsPlaced, may_append, left_appended, appended, stands_behind, aged_behind}
+use Rattle.kssd_index.proofs.Appending.{may_append, left_appended, appended, stands_behind, aged_behind}
 use Rattle.kssd_index.proofs.index.Index.append.Goals as goal
 
 pub returns-in_err-append_group-clause-kept : goal.returns-in_err-append_group-clause-kept

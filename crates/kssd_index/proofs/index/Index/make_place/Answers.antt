@@ -1,9 +1,8 @@
-use Rattle.std.proofs.Common.{◌≡◌, ◌∙◌, ◌≤◌, ◌<◌, ◌+◌, ◌*◌, ◌/◌, ◌^◌, ℕ, List, length, ap, sym, subst, arith}
+use Rattle.std.proofs.Common.{◌≡◌, ◌∙◌, ◌+◌, ◌*◌, ◌/◌, ◌^◌, ℕ, ap, sym, subst, arith}
 use Rattle.std.proofs.lemmas.Result.{err_from_is_err_and}
-use Rattle.kv_nand.specs.Flash.{Flash, Image}
+use Rattle.kv_nand.specs.Flash.{Flash}
 use Rattle.kssd_layout.specs.Numbers.{base_blocks_in}
-use Rattle.kssd_entry.specs.declared.entry.Entry.{Entry}
-use Rattle.kssd_model.specs.Groups.{Walk, turn_count}
+use Rattle.kssd_model.specs.Groups.{Walk}
 use Rattle.kssd_image.specs.Stages.{shown_by}
 use Rattle.kssd_index.specs.Standing.{IsAnchored, table_of}
 use Rattle.kssd_index.specs.Mapping.{IsKept}

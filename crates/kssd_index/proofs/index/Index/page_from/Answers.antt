@@ -1,6 +1,5 @@
-use Rattle.std.proofs.Common.{◌≡◌, ◌∙◌, List, ap, subst}
-use Rattle.kv_nand.specs.Flash.{Flash, Image}
-use Rattle.kssd_entry.specs.declared.entry.Entry.{Entry}
+use Rattle.std.proofs.Common.{◌∙◌, ap, subst}
+use Rattle.kv_nand.specs.Flash.{Flash}
 use Rattle.kssd_image.specs.Stages.{without_marks}
 use Rattle.kssd_levels.specs.First.{AreFirst}
 use Rattle.kssd_levels.specs.Streams.{stream_rest}
