@@ -1,14 +1,13 @@
 -- What a step leaves as it was, whichever it is.
-use Rattle.std.proofs.Common.{◌≡◌, ◌≢◌, ◌∙◌, ◌⊎◌, ℕ, ◌+◌, ◌≤◌, ◌/◌, Bool, true, false, Some, None, refl, sym, ap, subst, inl, inr, arith}
+use Rattle.std.proofs.Common.{◌≡◌, ◌≢◌, ◌∙◌, ◌⊎◌, ℕ, ◌+◌, ◌≤◌, true, refl, sym, ap, subst, inl, inr, arith}
 use Rattle.kv_nand.specs.Flash.{Flash}
 use Rattle.kssd_values.specs.declared.values.Values.{Values}
 use Rattle.kssd_values.specs.Marks.{is_live}
 use Rattle.kssd_values.specs.Places.{IsValueBlock}
-use Rattle.kssd_values.specs.Blocks.{BlockState, Free, Closed, device_of, is_live_at, state_at, free_count, has_target, copied, IsClosed}
-use Rattle.kssd_values.specs.Changes.{Copies}
+use Rattle.kssd_values.specs.Blocks.{Free, Closed, device_of, is_live_at, state_at, free_count, has_target, copied, IsClosed}
 use Rattle.kssd_reclaim.specs.declared.reclaim.Reclaim.{Reclaim}
 use Rattle.kssd_reclaim.specs.Reclaim.{block_of}
-use Rattle.kssd_reclaim.specs.Steps.{Steps, Idles, Begins, CopiesNext}
+use Rattle.kssd_reclaim.specs.Steps.{Steps}
 
 module _ (old new : Reclaim) (v w : Values) (before after : Flash) (h : Steps old v before new w after) where
   pub step_block : block_of new ≡ block_of old

@@ -1,5 +1,5 @@
 -- What a step of a collection does.
-use Rattle.std.specs.Prelude.{◌≡◌, ◌⊎◌, ◌+◌, ◌%◌, ◌++◌, ◌∷◌, [], ℕ, true, false, List, Some, None}
+use Rattle.std.specs.Prelude.{◌≡◌, ◌⊎◌, ◌+◌, ◌%◌, ◌++◌, ◌∷◌, [], ℕ, Some, None}
 use Rattle.kv_nand.specs.Flash.{Flash, PageState}
 use Rattle.kv_nand.specs.Working.{ops_more}
 use Rattle.kssd_values.specs.declared.values.Values.{Values}

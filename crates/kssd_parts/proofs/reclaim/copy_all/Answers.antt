@@ -1,7 +1,6 @@
-use Rattle.std.proofs.Common.{◌≡◌, ◌∙◌, ◌≢◌, ◌+◌, ◌≤◌, inl, sym, subst, ap, arith}
+use Rattle.std.proofs.Common.{◌∙◌, sym, subst, arith}
 use Rattle.kv_nand.proofs.Chaining.{works_blocks}
 use Rattle.kssd_values.specs.Blocks.{IsClosed}
-use Rattle.kssd_values.specs.Pages.{StandsIn}
 use Rattle.kssd_values.proofs.Standing.{live_stays}
 use Rattle.kssd_reclaim.proofs.Stepping.{step_block, step_device, step_live, step_closed, step_copied, step_block_left}
 use Rattle.kssd_parts.proofs.reclaim.copy_all.Goals as goal

@@ -1,5 +1,4 @@
 use Rattle.std.proofs.Common.{◌≡◌, false, take}
-use Rattle.kssd_model.specs.RunPages.{AreRunBlocks}
 use Rattle.kssd_run.specs.Writing.{Writes, is_closed, run_blocks}
 use Rattle.kssd_parts.proofs.run.feed_all.Given as goal
 

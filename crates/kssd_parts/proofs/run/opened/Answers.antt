@@ -1,4 +1,4 @@
-use Rattle.std.proofs.Common.{◌≡◌, ◌∙◌, ℕ, ◌+◌, ◌<◌, ◌≤◌, List, [], ◌∷◌, sym, subst, arith}
+use Rattle.std.proofs.Common.{◌≡◌, ℕ, ◌+◌, List, sym, subst, arith}
 use Rattle.kssd_model.specs.RunPages.{AreRunBlocks}
 use Rattle.kssd_parts.proofs.RunBlocks.{one_run_block}
 use Rattle.kssd_parts.proofs.run.opened.Goals as goal

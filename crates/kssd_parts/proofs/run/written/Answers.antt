@@ -1,7 +1,7 @@
-use Rattle.std.proofs.Common.{◌≡◌, ◌∙◌, ℕ, ◌+◌, ◌*◌, ◌/◌, ◌<◌, ◌≤◌, List, [], ◌∷◌, length, refl, sym, ap, subst, arith}
+use Rattle.std.proofs.Common.{◌≡◌, ◌∙◌, ℕ, ◌+◌, ◌/◌, List, [], ◌∷◌, refl, sym, subst, arith}
 use Rattle.kssd_model.specs.RunPages.{AreRunBlocks}
-use Rattle.kssd_run.specs.Run.{StandsRun, run_info}
-use Rattle.kssd_run.specs.Writing.{Writes, run_blocks}
+use Rattle.kssd_run.specs.Run.{run_info}
+use Rattle.kssd_run.specs.Writing.{run_blocks}
 use Rattle.kssd_run.proofs.Opened.{place_within}
 use Rattle.kssd_run.proofs.RunBlocks.{first_run_blocks}
 use Rattle.kssd_run.proofs.Staying.{writer_counts}

@@ -1,4 +1,4 @@
-use Rattle.std.proofs.Common.{◌≡◌, ◌∙◌, false, true}
+use Rattle.std.proofs.Common.{◌∙◌}
 use Rattle.std.proofs.lemmas.Bool.{false≢true}
 use Rattle.kssd_values.specs.declared.mark.Mark.TheVariants.{Dead}
 use Rattle.kssd_values.proofs.Standing.{live_marked}

@@ -1,11 +1,9 @@
-use Rattle.std.proofs.Common.{◌≡◌, ◌∙◌, ℕ, ap, sym, subst, length}
-use Rattle.kv_nand.specs.Flash.{Image}
+use Rattle.std.proofs.Common.{◌∙◌, ap, sym}
 use Rattle.kv_nand.proofs.Chaining.{works_blocks}
 use Rattle.kssd_image.specs.ValuePages.{has_value}
 use Rattle.kssd_image.proofs.ValuePages.{holds_again}
 use Rattle.kssd_values.specs.declared.mark.Mark.TheVariants.{Visible}
 use Rattle.kssd_values.specs.Marks.{is_live}
-use Rattle.kssd_values.specs.Pages.{key_in}
 use Rattle.kssd_values.proofs.Standing.{live_stays, live_marked, held_value, held_key}
 use Rattle.kssd_parts.proofs.values.put_visible.Goals as goal
 
