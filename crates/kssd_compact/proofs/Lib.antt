@@ -4,3 +4,4 @@ pub mod Jobs
 pub mod Beginning
 pub mod Merely
 pub mod Starts
+pub mod Installable

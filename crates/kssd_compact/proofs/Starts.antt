@@ -1,5 +1,5 @@
 -- A job of which nothing is written.
-use Rattle.std.proofs.Common.{◌≡◌, ◌≢◌, ◌∙◌, ℕ, ◌≤◌, ◌==◌, Bool, true, false, cond, not, ◌||◌, List, [], ◌++◌, length, refl, sym, ap, subst, arith, length-append}
+use Rattle.std.proofs.Common.{◌≡◌, ◌≢◌, ◌∙◌, ℕ, ◌≤◌, ◌==◌, Bool, true, false, cond, not, ◌||◌, List, [], ◌++◌, length, take, refl, sym, ap, subst, arith, length-append}
 use Rattle.std.specs.Prelude.{nat_eq}
 use Rattle.std.specs.List.{flat_map}
 use Rattle.std.proofs.lemmas.Bool.{eq-eqb, eqb-true}
@@ -22,7 +22,7 @@ use Rattle.kssd_levels.specs.declared.kind.JobKind.{JobKind}
 use Rattle.kssd_levels.specs.declared.kind.JobKind.TheVariants.{Flush, Zero, One, Collect}
 use Rattle.kssd_levels.specs.declared.levels.Levels.{Levels}
 use Rattle.kssd_levels.specs.Runs.{infos_in, blocks_in, has_block, StandRuns}
-use Rattle.kssd_levels.specs.Levels.{device_of, named_blocks, inputs_of, target_of, kept_by, StandLevels}
+use Rattle.kssd_levels.specs.Levels.{device_of, named_blocks, free_blocks_of, inputs_of, target_of, kept_by, StandLevels}
 use Rattle.kssd_levels.proofs.Layers.{stand_join}
 use Rattle.kssd_levels.proofs.Lookups.{rising_runs}
 use Rattle.kssd_compact.specs.declared.job.Job.{Job}
@@ -106,7 +106,9 @@ pub record IsBeginning (kind : JobKind) (levels : Levels) (frozen : List Entry) 
   pub entries : inputs.entries ≡ frozen
   pub runs : inputs.runs ≡ inputs_of kind levels
   pub total_is : total ≡ inputs_total kind frozen levels
+  pub room : kind ≡ Flush → length levels.zero ≤ 3
   pub count : length blocks ≡ blocks_for total
+  pub lowest : blocks ≡ take (blocks_for total) (free_blocks_of levels)
   pub own : AreRunBlocks (device_of levels) blocks
   pub apart : (block : ℕ) → has_block blocks block ≡ true → has_block (named_blocks levels) block ≡ false
   pub started : IsStarted (target_of kind) number blocks writer
@@ -157,13 +159,20 @@ stands_at_start kind levels frozen number inputs total blocks writer job image b
     }
 
 pub is_started : (kind : JobKind) (levels : Levels) (frozen : List Entry) (number : ℕ) (inputs : Inputs) (total : ℕ) (blocks : List ℕ) (writer : RunWriter) (job : Job) → IsBeginning kind levels frozen number inputs total blocks writer job → IsStartedJob kind levels frozen number job
-is_started kind levels frozen number inputs total blocks writer job b = record {
-  kind_is = b.begins.kind_is;
-  number_is = b.begins.place.number ∙ b.started.number_is;
-  level = b.begins.place.level ∙ b.started.level_is;
-  total = b.begins.total_is ∙ b.total_is;
-  steps = omega (arith, b.begins.place.pages, b.begins.place.begun, b.started.pages, b.started.begun);
-  inputs = ap source_houses b.begins.source_is ∙ ap blocks_in b.runs;
-  free = λ block has. b.apart block (ap (λ (bs : List ℕ). has_block bs block) (sym (blocks_are kind levels frozen number inputs total blocks writer job b)) ∙ has);
-  stands = λ image stand. ∣ stands_at_start kind levels frozen number inputs total blocks writer job image b stand ∣₁;
-}
+is_started kind levels frozen number inputs total blocks writer job b =
+    let own = blocks_are kind levels frozen number inputs total blocks writer job b in
+    record {
+      over = record {
+        kind_some = b.table.kind_is;
+        room = b.room;
+        kind_is = b.begins.kind_is;
+        level = b.begins.place.level ∙ b.started.level_is;
+        free = λ block has. b.apart block (ap (λ (bs : List ℕ). has_block bs block) (sym own) ∙ has);
+      };
+      number_is = b.begins.place.number ∙ b.started.number_is;
+      total = b.begins.total_is ∙ b.total_is;
+      steps = omega (arith, b.begins.place.pages, b.begins.place.begun, b.started.pages, b.started.begun);
+      inputs = ap source_houses b.begins.source_is ∙ ap blocks_in b.runs;
+      blocks = own ∙ b.lowest ∙ ap (λ (n : ℕ). take (blocks_for n) (free_blocks_of levels)) b.total_is;
+      stands = λ image stand. ∣ stands_at_start kind levels frozen number inputs total blocks writer job image b stand ∣₁;
+    }

@@ -1,5 +1,5 @@
 -- A job, its run that is half written, and what is still to come.
-use Rattle.std.specs.Prelude.{◌≡◌, ◌⊎◌, ◌≤◌, ◌+◌, ◌*◌, ◌/◌, ◌&&◌, not, ℕ, Bool, true, false, List, [], ◌++◌, length, take, if◌then◌else◌}
+use Rattle.std.specs.Prelude.{◌≡◌, ◌≢◌, ◌⊎◌, ◌≤◌, ◌+◌, ◌*◌, ◌/◌, ◌&&◌, not, ℕ, Bool, true, false, List, [], ◌++◌, length, take, if◌then◌else◌}
 use Rattle.kv_nand.specs.Flash.{Image, Flash}
 use Rattle.kv_nand.specs.Working.{ops_more}
 use Rattle.kssd_layout.specs.Laws.{pages_for, blocks_for}
@@ -14,7 +14,7 @@ use Rattle.kssd_levels.specs.declared.kind.JobKind.{JobKind}
 use Rattle.kssd_levels.specs.declared.kind.JobKind.TheVariants.{Flush, Zero, One, Collect}
 use Rattle.kssd_levels.specs.declared.levels.Levels.{Levels}
 use Rattle.kssd_levels.specs.Runs.{blocks_in, has_block}
-use Rattle.kssd_levels.specs.Levels.{device_of, named_blocks, inputs_of, target_of, kept_by, merged_inputs, StandLevels}
+use Rattle.kssd_levels.specs.Levels.{device_of, named_blocks, free_blocks_of, inputs_of, target_of, kept_by, merged_inputs, StandLevels}
 use Rattle.kssd_levels.specs.Laws.{entries_in}
 use Rattle.kssd_compact.specs.declared.job.Job.{Job}
 use Rattle.kssd_compact.specs.Source.{source_rest, StandsSource, source_houses}
@@ -32,6 +32,10 @@ inputs_total kind frozen levels = length frozen + entries_in (inputs_of kind lev
 
 abbrev pub job_kind : Job → JobKind
 job_kind job = job.kind
+
+-- the level of its run
+abbrev pub job_level : Job → ℕ
+job_level job = job.writer.info.level
 
 -- the number of its run
 abbrev pub job_number : Job → ℕ
@@ -89,26 +93,42 @@ StandsJob job goal device image = ∥ IsJob job goal device image ∥₁
 abbrev pub CanStepJob : Job → ℕ → Image → Type 0
 CanStepJob job device image = ∥ ((goal : List Entry) × IsJob job goal device image) ∥₁
 
+-- it is the same job, with the same inputs and blocks
+pub record IsSameJob (old new : Job) : Type 0 where
+  pub kind : job_kind new ≡ job_kind old
+  pub level : job_level new ≡ job_level old
+  pub number : job_number new ≡ job_number old
+  pub total : job_total new ≡ job_total old
+  pub blocks : job_blocks new ≡ job_blocks old
+  pub inputs : job_inputs new ≡ job_inputs old
+
 -- a page was programmed or a block erased by one operation; or nothing was left to do
 abbrev pub CountsStep : Job → Flash → Job → Flash → Type 0
 CountsStep old before new after =
     ((steps_done new ≡ steps_done old + 1) × (after.ops ≡ ops_more before 1))
     ⊎ ((steps_done new ≡ steps_done old) × (after.ops ≡ before.ops) × (job_done new ≡ true))
 
--- a job over these levels and this table, of which nothing is written
-pub record IsStartedJob (kind : JobKind) (levels : Levels) (frozen : List Entry) (number : ℕ) (job : Job) : Type 0 where
+-- a job of this kind, which these levels have room for, with blocks of its own that no run of them has
+pub record IsJobOver (kind : JobKind) (levels : Levels) (job : Job) : Type 0 where
+  pub kind_some : kind ≢ Collect
+  pub room : kind ≡ Flush → length levels.zero ≤ 3
   pub kind_is : job_kind job ≡ kind
+  pub level : job_level job ≡ target_of kind
+  pub free : (block : ℕ) → has_block (job_blocks job) block ≡ true → has_block (named_blocks levels) block ≡ false
+
+-- a job over these levels and this table, of which nothing is written, in the lowest free blocks
+pub record IsStartedJob (kind : JobKind) (levels : Levels) (frozen : List Entry) (number : ℕ) (job : Job) : Type 0 where
+  pub over : IsJobOver kind levels job
   pub number_is : job_number job ≡ number
-  pub level : job.writer.info.level ≡ target_of kind
   pub total : job_total job ≡ inputs_total kind frozen levels
   pub steps : steps_done job ≡ 0
   pub inputs : job_inputs job ≡ blocks_in (inputs_of kind levels)
-  pub free : (block : ℕ) → has_block (job_blocks job) block ≡ true → has_block (named_blocks levels) block ≡ false
+  pub blocks : job_blocks job ≡ take (blocks_for (inputs_total kind frozen levels)) (free_blocks_of levels)
   pub stands : (image : Image) → StandLevels levels (device_of levels) image → StandsJob job (goal_of kind frozen levels image) (device_of levels) image
 
 -- the run has just the entries that the job was to write, and stands in its blocks; at most one page for 9 entries, and just the blocks for these
 pub record IsMade (job : Job) (run : Run) : Type 0 where
-  pub level : (run_info run).level ≡ job.writer.info.level
+  pub level : (run_info run).level ≡ job_level job
   pub number : (run_info run).number ≡ job_number job
   pub few : (run_info run).pages ≤ pages_for (run_info run).entries
   pub housed : length (run_info run).blocks ≡ ((run_info run).pages + 31) / 32

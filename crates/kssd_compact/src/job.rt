@@ -45,7 +45,7 @@ impl Drop for Job {
 }
 
 impl Job {
-    ghost use Rattle.kssd_compact.specs.Job.{goal_of, job_blocks, job_kind, job_number, job_total, inputs_total, job_inputs, StandsJob, CanStepJob, job_done, CountsStep, IsStartedJob, IsMade};
+    ghost use Rattle.kssd_compact.specs.Job.{goal_of, job_blocks, StandsJob, CanStepJob, job_done, CountsStep, IsSameJob, IsStartedJob, IsMade};
     ghost use Rattle.kssd_compact.specs.Steps.{Fills, WritesOn, Begins};
     ghost use Rattle.kssd_compact.specs.Source.{StandsSource};
 
@@ -76,7 +76,7 @@ impl Job {
     pub fn step<N: Nand>(&mut self, alloc: Global, nand: &mut N) -> Result<(), FlashFault>
         requires { CanStepJob self.old (N.flash nand.old).blocks (N.flash nand.old).image }
         ensures job { OnOk result ((goal : List entry.Entry) → StandsJob self.old goal (N.flash nand.old).blocks (N.flash nand.old).image → StandsJob self.new goal (N.flash nand.new).blocks (N.flash nand.new).image) }
-        ensures same { OnOk result ((job_kind self.new ≡ job_kind self.old) × (job_number self.new ≡ job_number self.old) × (job_total self.new ≡ job_total self.old) × (job_blocks self.new ≡ job_blocks self.old) × (job_inputs self.new ≡ job_inputs self.old)) }
+        ensures same { OnOk result (IsSameJob self.old self.new) }
         ensures counts { OnOk result (CountsStep self.old (N.flash nand.old) self.new (N.flash nand.new)) }
         ensures outside { (page : ℕ) → has_block (job_blocks self.old) (page / 32) ≡ false → (N.flash nand.new).image page ≡ (N.flash nand.old).image page }
         ensures works { OnOk result (Works (N.flash nand.old) (N.flash nand.new) 1 (N.flash nand.new).reads) }

@@ -9,4 +9,4 @@ mod starting;
 
 pub use job::Job;
 pub use kssd_levels::JobKind;
-pub use laws::{jobs_finish, jobs_stay};
+pub use laws::{jobs_finish, jobs_stay, runs_may_be_installed};

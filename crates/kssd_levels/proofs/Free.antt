@@ -93,7 +93,7 @@ free_run_blocks device count named =
       region = λ i lt. All-filter (λ block. not (has_block named block)) (λ block. region_in device block ≡ Run) (range_with_len 20 (run_blocks_in device)) (range_region device) i 0 lt;
     })
 
-any_taken : (q : ℕ → Bool) (n : ℕ) (xs : List ℕ) → list_any q (take n xs) ≡ true → list_any q xs ≡ true
+pub any_taken : (q : ℕ → Bool) (n : ℕ) (xs : List ℕ) → list_any q (take n xs) ≡ true → list_any q xs ≡ true
 any_taken q zero xs h = absurd cc
 any_taken q (suc n) [] h = absurd cc
 any_taken q (suc n) (x ∷ xs) h = by (any_taken q n xs) (q x) h

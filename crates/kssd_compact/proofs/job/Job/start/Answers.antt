@@ -1,10 +1,11 @@
-use Rattle.std.proofs.Common.{◌≡◌, ◌∙◌, ℕ, ◌+◌, List, [], Option, Some, None, Bor, length, refl, sym, ap, subst}
+use Rattle.std.proofs.Common.{◌≡◌, ◌∙◌, ℕ, ◌+◌, List, [], Option, Some, None, Bor, length, take, refl, sym, ap, subst}
 use Rattle.std.specs.Prelude.{IsSome}
 use Rattle.std.specs.Option.{option_copied}
 use Rattle.kssd_entry.specs.declared.entry.Entry.{Entry}
 use Rattle.kssd_model.specs.Rising.{is_rising}
 use Rattle.kssd_run.specs.declared.reader.Run.{Run}
 use Rattle.kssd_run.specs.Writing.{IsStarted}
+use Rattle.kssd_levels.specs.Levels.{free_blocks_of}
 use Rattle.kssd_levels.specs.Laws.{entries_in}
 use Rattle.kssd_compact.specs.Job.{inputs_total}
 use Rattle.kssd_compact.specs.Starting.{frozen_entries}
@@ -31,6 +32,8 @@ returns c =
       runs = c.in_ok-inputs.ensures.runs;
       total_is = total;
       count = c.in_ok-blocks.ensures.count ∙ c.blocks_for.ensures;
+      room = c.requires.room;
+      lowest = c.in_ok-blocks.ensures.lowest ∙ ap (λ (n : ℕ). take n (free_blocks_of levels)) c.blocks_for.ensures;
       own = c.in_ok-blocks.ensures.blocks;
       apart = c.in_ok-blocks.ensures.apart;
       started = subst (λ (level : ℕ). IsStarted level c.args.number c.in_ok-blocks.blocks c.in_ok-writer.writer) c.target_of.ensures c.in_ok-writer.ensures;
