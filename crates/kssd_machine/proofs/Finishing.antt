@@ -1,5 +1,5 @@
 -- The end of a transaction.
-use Rattle.std.proofs.Common.{◌≡◌, ◌∙◌, ℕ, ◌/◌, ◌≤◌, Bool, true, false, cond, not, ◌&&◌, leb, ltb, nat_le, List, [], ◌∷◌, map, Option, Some, None, option_map, unwrap_or, is_some, inl, inr, refl, sym, ap, subst, arith}
+use Rattle.std.proofs.Common.{◌≡◌, ◌⊎◌, ◌∙◌, ℕ, ◌/◌, ◌≤◌, Bool, true, false, cond, not, ◌&&◌, leb, ltb, nat_le, List, [], ◌∷◌, map, Option, Some, None, option_map, unwrap_or, is_some, inl, inr, refl, sym, ap, subst, arith}
 use Rattle.std.specs.List.{AllByRecursion, list_all}
 use Rattle.std.specs.FinMap as objects
 use Rattle.std.proofs.lemmas.Bool.{and_parts, and_from, leb-true, le-leb, eqb-true, cases_lt}
@@ -82,6 +82,20 @@ objects_after blocks old new entries valued same shown =
     objects_from new
     ∙ ap objects.from_sorted (ap (map (object_in new)) shown ∙ same_objects blocks old new (shown_after old entries) same valued)
     ∙ after_is old entries
+
+pub objects_either : (blocks : ℕ) (old new : Image) (entries : List Entry) → AreValuesWhole blocks old (shown_in old) → list_all (has_its_value blocks old) (shown_after old entries) ≡ true → AreBlocksSame blocks old new
+    → (shown_in new ≡ shown_in old) ⊎ (shown_in new ≡ shown_after old entries) → (objects_in new ≡ objects_in old) ⊎ (objects_in new ≡ seen_through (stages.changes_of old entries) (objects_in old))
+objects_either blocks old new entries whole valued same which = elim which [
+  | inl before ↦ inl (objects_same blocks old new whole same before)
+  | inr later ↦ inr (objects_after blocks old new entries valued same later)
+]
+
+pub whole_either : (blocks : ℕ) (old new : Image) (entries : List Entry) → AreValuesWhole blocks old (shown_in old) → AreValuesWhole blocks old (shown_after old entries) → AreBlocksSame blocks old new
+    → (shown_in new ≡ shown_in old) ⊎ (shown_in new ≡ shown_after old entries) → AreValuesWhole blocks new (shown_in new)
+whole_either blocks old new entries before after same which = elim which [
+  | inl is ↦ subst (AreValuesWhole blocks new) (sym is) (values_whole blocks old new (shown_in old) before same)
+  | inr is ↦ subst (AreValuesWhole blocks new) (sym is) (values_whole blocks old new (shown_after old entries) after same)
+]
 
 -- a page that valued entries name lies in a block of values
 named_place : (blocks : ℕ) (image : Image) (es : List Entry) (page : ℕ) → list_all (has_its_value blocks image) es ≡ true → 1 ≤ times page es → first_value_block_in blocks ≤ page / 32

@@ -22,7 +22,7 @@ use Rattle.kssd_values.specs.declared.mark.Mark.TheVariants.{Pending, Visible, D
 use Rattle.kssd_values.specs.declared.values.Values.{Values}
 use Rattle.kssd_values.specs.Places.{IsValueBlock}
 use Rattle.kssd_values.specs.Blocks.{device_of, mark_at, is_live_at}
-use Rattle.kssd_values.specs.Pages.{is_value, KeepsPages}
+use Rattle.kssd_values.specs.Pages.{is_value, KeepsPages, LiveStand}
 use Rattle.kssd_reclaim.specs.Sources.{is_visible}
 use Rattle.kssd_machine.specs.Names.{names, times, times_pending, are_valued}
 use Rattle.kssd_machine.specs.Machines.{no_lists, ArePendingSame}
@@ -73,6 +73,9 @@ live_holds blocks v image visible lists page marked shown pending live = by (mar
     by Visible is h = list_holds blocks image page visible shown (let one = marked.shown page ∙ ap {B = ℕ} (λ m. cond (is_visible m) 1 0) is in omega arith)
     by Pending is h = lists_hold blocks image page lists pending (let one = marked.pending page ∙ ap {B = ℕ} (λ m. cond (is_pending m) 1 0) is in omega arith)
     by Dead is h = absurd cc
+
+pub live_stand : (v : Values) (image : Image) (visible : List Entry) (lists : Transactions) → AreMarked v visible lists → list_all (has_its_value (device_of v) image) visible ≡ true → are_valued (device_of v) image lists ≡ true → LiveStand v image
+live_stand v image visible lists marked shown pending = record { each = λ page live. (live_holds (device_of v) v image visible lists page marked shown pending live).1 }
 
 not_erased : (state : PageState) → is_value state ≡ true → state ≢ Erased
 not_erased state is h = absurd (let e : false ≡ true = sym (ap is_value h) ∙ is in cc)

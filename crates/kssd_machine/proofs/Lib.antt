@@ -10,3 +10,7 @@ pub mod Tagging
 pub mod Spacing
 pub mod Keeping
 pub mod Moving
+pub mod Valuing
+pub mod Copying
+pub mod Grouping
+pub mod Remaining

@@ -1,11 +1,11 @@
 -- The moves of a collection.
-use Rattle.std.proofs.Common.{◌≡◌, ◌∙◌, ℕ, zero, suc, ◌+◌, ◌*◌, ◌/◌, ◌%◌, ◌<◌, ◌≤◌, ◌⊎◌, ◌-◌, inl, inr, Bool, true, false, cond, not, ◌&&◌, ◌||◌, eqb, leb, ltb, List, [], ◌∷◌, ◌++◌, length, get_or, map, Option, Some, None, option_map, refl, sym, ap, subst, arith, length-append}
+use Rattle.std.proofs.Common.{◌≡◌, ◌∙◌, ℕ, suc, ◌+◌, ◌/◌, ◌%◌, ◌<◌, ◌≤◌, ◌-◌, inl, inr, Bool, true, false, cond, not, ◌||◌, eqb, ltb, List, [], ◌∷◌, ◌++◌, length, get_or, map, Option, Some, None, option_map, refl, sym, ap, subst, arith, length-append}
 use Rattle.std.specs.Prelude.{filter}
 use Rattle.std.specs.List.{AllByRecursion, list_any, list_all}
 use Rattle.std.specs.FinMap as objects
 use Rattle.std.specs.declared.cmp.Ordering.{Ordering}
 use Rattle.std.specs.declared.cmp.Ordering.TheVariants.{Less, Equal, Greater}
-use Rattle.std.proofs.lemmas.Bool.{and_parts, and_from, leb-true, eqb-true, eq-eqb, ne_eqb, le-leb, lt-ltb, ltb-true, cases_eq, cases_lt}
+use Rattle.std.proofs.lemmas.Bool.{and_parts, and_from, eqb-true, eq-eqb, ne_eqb, le-leb, lt-ltb, ltb-true, cases_eq, cases_lt, or_left, or_right}
 use Rattle.std.proofs.lemmas.Option.{none-some, same_Some}
 use Rattle.std.proofs.lemmas.List.{get_or_append_left, get_or-append_right}
 use Rattle.kv_nand.specs.Flash.{Flash, Image}
@@ -18,6 +18,7 @@ use Rattle.kssd_image.specs.ValuePages.{has_value, first_bytes}
 use Rattle.kssd_image.specs.Stages as stages
 use Rattle.kssd_image.specs.Stages.{without_marks, shown_in, value_in, change_in}
 use Rattle.kssd_image.specs.Whole.{page_named, pages_named, is_value_block, has_its_value, is_unnamed}
+use Rattle.kssd_frames.specs.Logging.{shown_after}
 use Rattle.kssd_frames.specs.Changing.{IsMove}
 use Rattle.kssd_frames.proofs.Lookups.{key_is, has_own}
 use Rattle.kssd_frames.proofs.ShownLaws.{shown_in_rises, objects_get}
@@ -28,12 +29,12 @@ use Rattle.kssd_values.specs.declared.mark.Mark.TheVariants.{Pending, Visible, D
 use Rattle.kssd_values.specs.declared.filling.Filling.{Filling}
 use Rattle.kssd_values.specs.declared.values.Values.{Values}
 use Rattle.kssd_values.specs.Places.{IsValueBlock, is_in, next_in, is_below_in}
-use Rattle.kssd_values.specs.Blocks.{Free, Open, Closed, Target, device_of, mark_at, is_live_at, state_at, is_target_page, target_next, has_target}
+use Rattle.kssd_values.specs.Blocks.{Free, Open, Closed, Target, device_of, mark_at, is_live_at, state_at, is_target_page, target_next}
 use Rattle.kssd_reclaim.specs.declared.copies.CopyOf.{CopyOf}
 use Rattle.kssd_reclaim.specs.declared.reclaim.Reclaim.{Reclaim}
 use Rattle.kssd_reclaim.specs.Sources.{is_visible, move_of}
-use Rattle.kssd_reclaim.specs.Reclaim.{block_of, next_of, copies_of, moves_of, IsAhead, AllCopied, IsCopy, Collects}
-use Rattle.kssd_reclaim.specs.Steps.{Begins, CopiesNext, Steps}
+use Rattle.kssd_reclaim.specs.Reclaim.{block_of, next_of, copies_of, moves_of, AllCopied, IsCopy, Collects}
+use Rattle.kssd_reclaim.specs.Steps.{Steps, Begins, CopiesNext}
 use Rattle.kssd_machine.specs.Names.{names, times, times_pending, are_rising}
 use Rattle.kssd_machine.specs.Machines.{pending_in}
 use Rattle.kssd_machine.specs.Sizes.{listed, replaced, keys_differ}
@@ -43,7 +44,7 @@ use Rattle.kssd_machine.proofs.Naming.{times_first}
 use Rattle.kssd_machine.proofs.Transacting.{rising_at}
 use Rattle.kssd_machine.proofs.Seeing.{page_read}
 use Rattle.kssd_machine.proofs.Weighing.{as_name, name_light, after_sum, rising_differ}
-use Rattle.kssd_machine.proofs.Tagging.{pending_closed}
+use Rattle.kssd_machine.proofs.Tagging.{named_some, named_none, pending_closed}
 
 -- ---- the entry that names a page
 
@@ -130,6 +131,7 @@ pub record IsMoved (v : Values) (image : Image) (c : CopyOf) : Type 0 where
   pub same : image c.target ≡ image c.source
   pub valued : has_its_value (device_of v) image (At c.key c.target c.length) ≡ true
   pub dead : mark_at v c.target ≡ Dead
+  pub place : state_at v (c.target / 32) ≡ Target
 
 -- the block copied into is in use for that
 target_block : (v : Values) (page : ℕ) → is_target_page v page ≡ true → (state_at v (page / 32) ≡ Target) × IsValueBlock (device_of v) (page / 32)
@@ -176,6 +178,7 @@ moved v image lists c marked valued dead copy visible =
       same = same;
       valued = and_from _ _ (and_from _ _ (le-leb _ _ place.1.first) (lt-ltb _ _ place.1.last)) (ap (has_value c.key c.length) same ∙ held);
       dead = dead c.target place.0;
+      place = place.0;
     }
 
 -- ---- lists of moves
@@ -248,6 +251,14 @@ all_dead v image page (c ∷ cs) all is = by (eqb c.target page) refl is (all_de
     by true e h rest = subst (λ (p : ℕ). mark_at v p ≡ Dead) (eqb-true c.target page e) all.0.dead
     by false e h rest = rest h
 
+all_placed : (v : Values) (image : Image) (page : ℕ) (cs : List CopyOf) → AllByRecursion (IsMoved v image) cs → is_named page (map move_of cs) ≡ true → state_at v (page / 32) ≡ Target
+all_placed v image page [] all is = absurd cc
+all_placed v image page (c ∷ cs) all is = by (eqb c.target page) refl is (all_placed v image page cs all.1)
+  where
+    by : (b : Bool) → eqb c.target page ≡ b → (b || is_named page (map move_of cs)) ≡ true → (is_named page (map move_of cs) ≡ true → state_at v (page / 32) ≡ Target) → state_at v (page / 32) ≡ Target
+    by true e h rest = subst (λ (p : ℕ). state_at v (p / 32) ≡ Target) (eqb-true c.target page e) all.0.place
+    by false e h rest = rest h
+
 all_valued : (v : Values) (image : Image) (cs : List CopyOf) → AllByRecursion (IsMoved v image) cs → list_all (has_its_value (device_of v) image) (map move_of cs) ≡ true
 all_valued v image [] all = refl
 all_valued v image (c ∷ cs) all = and_from _ _ all.0.valued (all_valued v image cs all.1)
@@ -265,13 +276,78 @@ moves_are r v image lists marked valued collects targets =
       differ = all_differ v image vs all apart;
       once = λ page. all_once page vs apart;
       dead = λ page is. all_dead v image page vs all is;
+      targets = λ page is. all_placed v image page vs all is;
       valued = all_valued v image vs all;
       sources = λ page. ap (is_named page) (replaced_are v image vs all) ∙ named_sources page vs;
     }
 
+pub unnamed : (entries : List Entry) (block : ℕ) → ((page : ℕ) → page / 32 ≡ block → times page entries ≡ 0) → is_unnamed entries block ≡ true
+unnamed [] block none = refl
+unnamed (e ∷ es) block none =
+    let rest = unnamed es block (λ page is. let all = none page is in omega (arith, times_first page e es)) in
+    first e (λ page is. let all = none page is in omega (arith, times_first page e es)) rest
+  where
+    first : (x : Entry) → ((page : ℕ) → page / 32 ≡ block → as_name page x ≡ 0) → is_unnamed es block ≡ true → list_all (λ page. not (eqb (page / 32) block)) (page_named x ++ pages_named es) ≡ true
+    first (Put key value) free rest = rest
+    first (Gone key) free rest = rest
+    first (At key at size) free rest = and_from _ _ (ap not (ne_eqb (at / 32) block (λ is.
+        let one : as_name at (At key at size) ≡ 1 = ap {B = ℕ} (λ b. cond b 1 0) (eq-eqb at at refl) in
+        let zero_ = free at is in
+        absurd (omega arith)))) rest
+
+-- a visible page that was copied is among the copies of visible pages
+copied_visible : (v : Values) (page : ℕ) (cs : List CopyOf) → list_any (λ c. eqb c.source page) cs ≡ true → is_visible (mark_at v page) ≡ true → list_any (λ c. eqb c.source page) (filter (λ c. is_visible (mark_at v c.source)) cs) ≡ true
+copied_visible v page [] is visible = absurd cc
+copied_visible v page (c ∷ cs) is visible = by (eqb c.source page) (is_visible (mark_at v c.source)) refl refl is (λ h. copied_visible v page cs h visible)
+  where
+    by : (a b : Bool) → eqb c.source page ≡ a → is_visible (mark_at v c.source) ≡ b → (a || list_any (λ c. eqb c.source page) cs) ≡ true
+        → (list_any (λ c. eqb c.source page) cs ≡ true → list_any (λ c. eqb c.source page) (filter (λ c. is_visible (mark_at v c.source)) cs) ≡ true)
+        → list_any (λ c. eqb c.source page) (cond b (c ∷ filter (λ c. is_visible (mark_at v c.source)) cs) (filter (λ c. is_visible (mark_at v c.source)) cs)) ≡ true
+    by true true e k h rest = or_left (eqb c.source page) (list_any (λ c. eqb c.source page) (filter (λ c. is_visible (mark_at v c.source)) cs)) e
+    by true false e k h rest = absurd (let f : false ≡ true = sym k ∙ ap (λ p. is_visible (mark_at v p)) (eqb-true c.source page e) ∙ visible in cc)
+    by false true e k h rest = or_right (eqb c.source page) (list_any (λ c. eqb c.source page) (filter (λ c. is_visible (mark_at v c.source)) cs)) (rest h)
+    by false false e k h rest = rest h
+
+pub block_left_empty : (r : Reclaim) (v : Values) (image : Image) (lists : Transactions) (moves : List Entry) → AreMarked v (shown_in image) lists → Collects r v image → AllCopied r v → state_at v (block_of r) ≡ Closed → AreMoves r v image moves
+    → is_unnamed (shown_after image moves) (block_of r) ≡ true
+block_left_empty r v image lists moves marked collects copied closed are = unnamed (shown_after image moves) (block_of r) each
+  where
+    none_moved : (page : ℕ) → page / 32 ≡ block_of r → is_named page moves ≡ false
+    none_moved page here = by (is_named page moves) refl
+      where
+        by : (b : Bool) → is_named page moves ≡ b → b ≡ false
+        by false is = refl
+        by true is = absurd (let e : Closed ≡ Target = sym closed ∙ ap (state_at v) (sym here) ∙ are.targets page is in cc)
+
+    source_of : (page : ℕ) → page / 32 ≡ block_of r → is_visible (mark_at v page) ≡ true → list_any (λ c. eqb c.source page) (copies_of r) ≡ true
+    source_of page here visible =
+        let live : is_live_at v page ≡ true = ap is_live (is_visible_mark (mark_at v page) visible) in
+        elim (cases_lt (page % 32) (next_of r)) [
+          | inl low ↦ collects.complete page here low live
+          | inr ahead ↦ absurd (let e : true ≡ false = sym live ∙ copied page (record { block_is = here; from = ahead }) in cc)
+        ]
+
+    each : (page : ℕ) → page / 32 ≡ block_of r → times page (shown_after image moves) ≡ 0
+    each page here = by (is_visible (mark_at v page)) refl
+      where
+        sum : times page (shown_after image moves) + times page (replaced (shown_in image) moves) ≡ times page (shown_in image) + times page moves
+        sum = after_sum (as_name page) (name_light page) moves (shown_in image) (shown_in_rises image) are.differ
+
+        no_moves : times page moves ≡ 0
+        no_moves = named_none page moves (none_moved page here)
+
+        by : (b : Bool) → is_visible (mark_at v page) ≡ b → times page (shown_after image moves) ≡ 0
+        by true visible =
+            let one : times page (shown_in image) ≡ 1 = marked.shown page ∙ ap {B = ℕ} (λ b. cond b 1 0) visible in
+            let some = named_some page (replaced (shown_in image) moves) (are.sources page ∙ copied_visible v page (copies_of r) (source_of page here visible) visible) in
+            omega (arith, sum, no_moves)
+        by false hidden =
+            let none : times page (shown_in image) ≡ 0 = marked.shown page ∙ ap {B = ℕ} (λ b. cond b 1 0) hidden in
+            omega (arith, sum, no_moves)
+
 -- ---- steps
 
-is_free : (v : Values) (block : ℕ) → state_at v block ≡ Free → get_or v.free.items block false ≡ true
+pub is_free : (v : Values) (block : ℕ) → state_at v block ≡ Free → get_or v.free.items block false ≡ true
 is_free v block free = by (is_in v.opened block) (is_in v.target block) (get_or v.free.items block false) free
   where
     by : (o t f : Bool) → cond o Open (cond t Target (cond f Free Closed)) ≡ Free → f ≡ true
@@ -293,49 +369,6 @@ is_target v block is = by (is_in v.opened block) (is_in v.target block) (get_or 
     by false true f h = refl
     by false false true h = absurd cc
     by false false false h = absurd cc
-
--- all pass, or one fails
-all_or_one : (f : ℕ → Bool) (n : ℕ) → ((k : ℕ) → k < n → f k ≡ true) ⊎ ((k : ℕ) × (f k ≡ false))
-all_or_one f zero = inl (λ k low. absurd (omega arith))
-all_or_one f (suc n) = elim (all_or_one f n) [
-  | inl all ↦ by (f n) refl all
-  | inr one ↦ inr one
-]
-  where
-    by : (b : Bool) → f n ≡ b → ((k : ℕ) → k < n → f k ≡ true) → ((k : ℕ) → k < suc n → f k ≡ true) ⊎ ((k : ℕ) × (f k ≡ false))
-    by true is all = inl (λ k low. elim (cases_lt k n) [ inl less ↦ all k less | inr most ↦ ap f (let t : k ≡ n = omega arith in t) ∙ is ])
-    by false is all = inr (n, is)
-
--- whether all is copied can be told
-copied_or_not : (r : Reclaim) (v : Values) → AllCopied r v ⊎ (AllCopied r v → ⊥)
-copied_or_not r v = elim (all_or_one (λ k. not (leb (next_of r) (k % 32) && is_live_at v (32 * block_of r + k % 32))) 32) [
-  | inl all ↦ inl (λ page ahead. done page ahead (all (page % 32) (omega arith)))
-  | inr one ↦ inr (λ copied. left one.0 one.1 copied)
-]
-  where
-    done : (page : ℕ) → IsAhead r page → not (leb (next_of r) ((page % 32) % 32) && is_live_at v (32 * block_of r + (page % 32) % 32)) ≡ true → is_live_at v page ≡ false
-    done page ahead h =
-        let block = ahead.block_is in
-        let place : 32 * block_of r + (page % 32) % 32 ≡ page = omega arith in
-        let from = ahead.from in
-        let low : leb (next_of r) ((page % 32) % 32) ≡ true = le-leb _ _ (omega arith) in
-        by (is_live_at v page) (subst (λ (p : ℕ). not (leb (next_of r) ((page % 32) % 32) && is_live_at v p) ≡ true) place h) low
-      where
-        by : (b : Bool) → not (leb (next_of r) ((page % 32) % 32) && b) ≡ true → leb (next_of r) ((page % 32) % 32) ≡ true → b ≡ false
-        by false h low = refl
-        by true h low = absurd (let e : false ≡ true = sym (ap (λ c. not (c && true)) low) ∙ h in cc)
-
-    left : (k : ℕ) → not (leb (next_of r) (k % 32) && is_live_at v (32 * block_of r + k % 32)) ≡ false → AllCopied r v → ⊥
-    left k h copied =
-        let both = both_of (leb (next_of r) (k % 32)) (is_live_at v (32 * block_of r + k % 32)) h in
-        let from = leb-true _ _ both.0 in
-        let dead = copied (32 * block_of r + k % 32) (record { block_is = omega arith; from = omega arith }) in
-        absurd (let e : true ≡ false = sym both.1 ∙ dead in cc)
-      where
-        both_of : (a b : Bool) → not (a && b) ≡ false → (a ≡ true) × (b ≡ true)
-        both_of true true h = (refl, refl)
-        both_of true false h = absurd cc
-        both_of false b h = absurd cc
 
 kept_by : (old new : Reclaim) (v w : Values) → HasTargets old v → copies_of new ≡ copies_of old → ((page : ℕ) → state_at w (page / 32) ≡ Target → mark_at w page ≡ Dead) → HasTargets new w
 kept_by old new v w targets same dead = record {
@@ -373,14 +406,11 @@ added cs copy rising below i j d less low =
 pub targets_kept : (old new : Reclaim) (v w : Values) (before after : Flash) → Steps old v before new w after → Collects old v before.image → HasTargets old v → HasTargets new w
 targets_kept old new v w before after steps collects targets = elim steps [
   | inl idle ↦ subst (λ (x : Values). HasTargets new x) (sym idle.values) (kept_by old new v v targets idle.waits.copies targets.dead)
-  | inr more ↦ elim more [
-    | inl begins ↦ begun begins
-    | inr copies ↦ copied copies
-  ]
+  | inr more ↦ elim more [ inl step ↦ begins step | inr step ↦ copies step ]
 ]
   where
-    begun : Begins old v before new w after → HasTargets new w
-    begun step =
+    begins : Begins old v before new w after → HasTargets new w
+    begins step =
         let taken = step.values.begins refl in
         let takes = taken.2.2 in
         kept_by old new v w targets step.waits.copies (λ page is. elim (cases_eq (page / 32) taken.2.0) [
@@ -388,8 +418,8 @@ targets_kept old new v w before after steps collects targets = elim steps [
           | inr away ↦ step.values.marks page ∙ targets.dead page (sym (takes.others (page / 32) away) ∙ is)
         ])
 
-    copied : CopiesNext old v before new w after → HasTargets new w
-    copied step =
+    copies : CopiesNext old v before new w after → HasTargets new w
+    copies step =
         let copy = step.copy in
         let on = step.values.goes_on copy.target refl in
         record {
@@ -447,20 +477,6 @@ repointed_same image (Some es ∷ ts) page other same =
     λ i. Some (first i) ∷ rest i
 
 -- ---- blocks that are left
-
-pub unnamed : (entries : List Entry) (block : ℕ) → ((page : ℕ) → page / 32 ≡ block → times page entries ≡ 0) → is_unnamed entries block ≡ true
-unnamed [] block none = refl
-unnamed (e ∷ es) block none =
-    let rest = unnamed es block (λ page is. let all = none page is in omega (arith, times_first page e es)) in
-    first e (λ page is. let all = none page is in omega (arith, times_first page e es)) rest
-  where
-    first : (x : Entry) → ((page : ℕ) → page / 32 ≡ block → as_name page x ≡ 0) → is_unnamed es block ≡ true → list_all (λ page. not (eqb (page / 32) block)) (page_named x ++ pages_named es) ≡ true
-    first (Put key value) free rest = rest
-    first (Gone key) free rest = rest
-    first (At key at size) free rest = and_from _ _ (ap not (ne_eqb (at / 32) block (λ is.
-        let one : as_name at (At key at size) ≡ 1 = ap {B = ℕ} (λ b. cond b 1 0) (eq-eqb at at refl) in
-        let zero_ = free at is in
-        absurd (omega arith)))) rest
 
 pub named_after : (visible entries : List Entry) (page : ℕ) → is_rising visible ≡ true → keys_differ entries ≡ true
     → times page (without_marks (merged entries visible)) + times page (replaced visible entries) ≡ times page visible + times page entries

@@ -1,6 +1,6 @@
 -- Calls on the lists of open transactions as calls of the device.
-use Rattle.std.specs.Prelude.{◌≡◌, ℕ, Bool, true, false, not, ◌&&◌, nat_lt, is_some, List, [], length, option_map, Option, Some, None, if◌then◌else◌}
-use Rattle.kv_nand.specs.Flash.{Flash}
+use Rattle.std.specs.Prelude.{◌≡◌, ◌/◌, ℕ, Bool, true, false, not, ◌&&◌, nat_lt, is_some, List, [], length, option_map, Option, Some, None, if◌then◌else◌}
+use Rattle.kv_nand.specs.Flash.{Flash, Image}
 use Rattle.kv_device.specs.Machine as device
 use Rattle.kv_device.specs.Machine.{Machine, is_open, with_change, view}
 use Rattle.kv_device.specs.Calls as refusals
@@ -14,11 +14,13 @@ use Rattle.kssd_model.specs.Rising.{put_entry}
 use Rattle.kssd_image.specs.ValuePages.{HoldsValue}
 use Rattle.kssd_image.specs.Stages as stages
 use Rattle.kssd_image.specs.Stages.{change_in}
+use Rattle.kssd_image.specs.Whole.{has_its_value}
+use Rattle.kssd_values.specs.Places.{IsValueBlock}
 use Rattle.kssd_tx.specs.declared.fault.TxFault.{TxFault}
 use Rattle.kssd_tx.specs.declared.fault.TxFault.TheVariants as tx_faults
-use Rattle.kssd_tx.specs.Lists.{Transactions, list_of, changes_of, open_count, free_number, change_count, with_list}
+use Rattle.kssd_tx.specs.Lists.{Transactions, list_of, changes_of, open_count, free_number, change_count, with_list, all_repointed}
 use Rattle.kssd_tx.specs.Refusals.{tx_refusal, set_refusal, is_full}
-use Rattle.kssd_machine.specs.Names.{are_rising}
+use Rattle.kssd_machine.specs.Names.{are_rising, are_valued}
 use Rattle.kssd_machine.specs.Machines.{machine_of}
 
 -- the device's fault where a call on the lists has one
@@ -82,3 +84,12 @@ pub record OutsideCausesAgree : Type 0 where
       → SetFault (machine_of flash true lists) tx key value fault new
   pub reading : (flash : Flash) (lists : Transactions) (tx : ℕ) (fault : DeviceFault) (new : Machine) → tx_refusal lists tx ≡ None → FallsReading (machine_of flash true lists) fault new → ReadFault (machine_of flash true lists) tx fault new
   pub ending : (flash : Flash) (lists : Transactions) (tx : ℕ) (fault : DeviceFault) (new : Machine) → tx_refusal lists tx ≡ None → FallsEnding (view (machine_of flash true lists) tx) (machine_of flash true lists) fault new → EndFault (machine_of flash true lists) tx fault new
+
+-- changes whose pages hold their values still do, whatever call is made
+pub record ValuesStay : Type 0 where
+  pub holds : (blocks : ℕ) (image : Image) (key value : List ℕ) (page : ℕ) → IsValueBlock blocks (page / 32) → HoldsValue key value (image page) → has_its_value blocks image (At key page (length value)) ≡ true
+  pub begin : (blocks : ℕ) (image : Image) (lists : Transactions) (tx : ℕ) → are_valued blocks image lists ≡ true → are_valued blocks image (with_list lists tx (Some [])) ≡ true
+  pub change : (blocks : ℕ) (image : Image) (lists : Transactions) (tx : ℕ) (entry : Entry) → are_valued blocks image lists ≡ true → has_its_value blocks image entry ≡ true → are_valued blocks image (with_entry lists tx entry) ≡ true
+  pub close : (blocks : ℕ) (image : Image) (lists : Transactions) (tx : ℕ) → are_valued blocks image lists ≡ true → are_valued blocks image (with_list lists tx None) ≡ true
+  pub repoint : (blocks : ℕ) (image : Image) (lists : Transactions) (page other : ℕ) → are_valued blocks image lists ≡ true → IsValueBlock blocks (other / 32) → image other ≡ image page → are_valued blocks image (all_repointed page other lists) ≡ true
+  pub rising : (lists : Transactions) (page other : ℕ) → are_rising lists ≡ true → are_rising (all_repointed page other lists) ≡ true

@@ -1,5 +1,5 @@
 -- The end of a transaction as that of the device.
-use Rattle.std.specs.Prelude.{◌≡◌, ◌≤◌, ◌/◌, ℕ, true, false, ◌&&◌, nat_le, List, [], Some, None}
+use Rattle.std.specs.Prelude.{◌≡◌, ◌⊎◌, ◌≤◌, ◌/◌, ℕ, true, false, ◌&&◌, nat_le, List, [], Some, None}
 use Rattle.std.specs.List.{AllByRecursion, list_all}
 use Rattle.std.specs.FinMap as objects
 use Rattle.kv_nand.specs.Flash.{Flash, Image}
@@ -29,6 +29,10 @@ pub record EntriesTellTheObjects : Type 0 where
   pub same : (blocks : ℕ) (old new : Image) → AreValuesWhole blocks old (shown_in old) → AreBlocksSame blocks old new → shown_in new ≡ shown_in old → objects_in new ≡ objects_in old
   pub after : (blocks : ℕ) (old new : Image) (entries : List Entry) → list_all (has_its_value blocks old) (shown_after old entries) ≡ true → AreBlocksSame blocks old new → shown_in new ≡ shown_after old entries
       → objects_in new ≡ seen_through (stages.changes_of old entries) (objects_in old)
+  pub either : (blocks : ℕ) (old new : Image) (entries : List Entry) → AreValuesWhole blocks old (shown_in old) → list_all (has_its_value blocks old) (shown_after old entries) ≡ true → AreBlocksSame blocks old new
+      → (shown_in new ≡ shown_in old) ⊎ (shown_in new ≡ shown_after old entries) → (objects_in new ≡ objects_in old) ⊎ (objects_in new ≡ seen_through (stages.changes_of old entries) (objects_in old))
+  pub whole : (blocks : ℕ) (old new : Image) (entries : List Entry) → AreValuesWhole blocks old (shown_in old) → AreValuesWhole blocks old (shown_after old entries) → AreBlocksSame blocks old new
+      → (shown_in new ≡ shown_in old) ⊎ (shown_in new ≡ shown_after old entries) → AreValuesWhole blocks new (shown_in new)
   pub values : (blocks : ℕ) (old new : Image) (entries : List Entry) → AreValuesWhole blocks old entries → AreBlocksSame blocks old new → AreValuesWhole blocks new entries
   pub valued : (blocks : ℕ) (old new : Image) (entries : List Entry) → AreBlocksSame blocks old new → list_all (has_its_value blocks old) entries ≡ true → list_all (has_its_value blocks new) entries ≡ true
   pub pending : (blocks : ℕ) (old new : Image) (lists : Transactions) → are_valued blocks old lists ≡ true → AreBlocksSame blocks old new → ArePendingSame old new lists

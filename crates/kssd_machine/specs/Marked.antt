@@ -1,5 +1,5 @@
 -- Marks of pages, and the entries that name them.
-use Rattle.std.specs.Prelude.{◌≡◌, ◌≤◌, ◌<◌, ◌+◌, ◌-◌, ◌*◌, ◌/◌, ◌==◌, ℕ, Bool, true, false, List, [], ◌∷◌, length, is_some, Some, None, if◌then◌else◌}
+use Rattle.std.specs.Prelude.{◌≡◌, ◌≤◌, ◌<◌, ◌+◌, ◌-◌, ◌*◌, ◌/◌, ◌==◌, ℕ, Bool, true, false, List, [], ◌∷◌, length, is_some, Some, None, if◌then◌else◌, ◌≢◌, Option}
 use Rattle.std.specs.List.{list_any, list_all}
 use Rattle.kv_nand.specs.Flash.{Image, Erased}
 use Rattle.kssd_layout.specs.Numbers.{max_pages_in, value_blocks_in}
@@ -7,16 +7,16 @@ use Rattle.kssd_entry.specs.declared.entry.Entry.{Entry}
 use Rattle.kssd_entry.specs.Spelling.{key_of}
 use Rattle.kssd_model.specs.Rising.{is_rising, merged}
 use Rattle.kssd_image.specs.Stages.{without_marks, shown_in}
-use Rattle.kssd_image.specs.Whole.{pages_named, has_its_value, IsWhole, age_in}
+use Rattle.kssd_image.specs.Whole.{pages_named, has_its_value, leaves_a_block, IsWhole, age_in}
 use Rattle.kssd_frames.specs.Same.{Stays}
 use Rattle.kssd_tx.specs.Lists.{Transactions, list_of, changes_of, change_of, change_count, with_list, all_repointed}
 use Rattle.kssd_values.specs.declared.mark.Mark.{Mark}
 use Rattle.kssd_values.specs.declared.mark.Mark.TheVariants.{Pending, Visible, Dead}
 use Rattle.kssd_values.specs.declared.values.Values.{Values}
 use Rattle.kssd_values.specs.Places.{IsValueBlock}
-use Rattle.kssd_values.specs.Blocks.{device_of, mark_at, is_live_at, has_target, target_next, free_count, free_room, live_in, live_count, IsClosed}
-use Rattle.kssd_values.specs.Pages.{is_value, KeepsPages}
-use Rattle.kssd_values.specs.Changes.{Clears}
+use Rattle.kssd_values.specs.Blocks.{device_of, mark_at, is_live_at, state_at, Free, Closed, has_target, target_next, free_count, free_room, live_in, live_count, IsClosed}
+use Rattle.kssd_values.specs.Pages.{is_value, KeepsPages, LiveStand}
+use Rattle.kssd_values.specs.Changes.{SamePlaces, Puts, Copies, Clears}
 use Rattle.kssd_reclaim.specs.Sources.{is_visible}
 use Rattle.kssd_machine.specs.Names.{names, times, times_pending, are_rising, are_valued}
 use Rattle.kssd_machine.specs.Machines.{no_lists, ArePendingSame}
@@ -70,11 +70,25 @@ pub record MarkedPagesStand : Type 0 where
   pub stays : (v : Values) (old new : Image) (lists : Transactions) → IsWhole (device_of v) old → AreMarked v (shown_in old) lists → KeepsPages v old new → Stays (device_of v) old new (age_in old)
   pub live : (blocks : ℕ) (v : Values) (image : Image) (visible : List Entry) (lists : Transactions) (page : ℕ) → AreMarked v visible lists → list_all (has_its_value blocks image) visible ≡ true → are_valued blocks image lists ≡ true
       → is_live_at v page ≡ true → IsValueBlock blocks (page / 32) × (is_value (image page) ≡ true)
+  pub stand : (v : Values) (image : Image) (visible : List Entry) (lists : Transactions) → AreMarked v visible lists → list_all (has_its_value (device_of v) image) visible ≡ true → are_valued (device_of v) image lists ≡ true → LiveStand v image
   pub fresh : (blocks : ℕ) (v : Values) (image : Image) (visible : List Entry) (lists : Transactions) (page : ℕ) → AreMarked v visible lists → list_all (has_its_value blocks image) visible ≡ true → are_valued blocks image lists ≡ true
       → image page ≡ Erased → mark_at v page ≡ Dead
   pub pending : (blocks : ℕ) (v : Values) (old new : Image) (visible : List Entry) (lists : Transactions) → AreMarked v visible lists → list_all (has_its_value blocks old) visible ≡ true → are_valued blocks old lists ≡ true
       → KeepsPages v old new → ArePendingSame old new lists
   pub valued : (blocks : ℕ) (old new : Image) (lists : Transactions) → are_valued blocks old lists ≡ true → ((page : ℕ) → 1 ≤ times_pending page lists → new page ≡ old page) → are_valued blocks new lists ≡ true
+
+-- a block is free, or one is being copied into
+abbrev pub HasBlock : Values → Type 0
+HasBlock v = 1 ≤ free_count v + (if has_target v then 1 else 0)
+
+-- so it is at a mount, and after each call
+pub record BlocksRemain : Type 0 where
+  pub mount : (v : Values) (visible : List Entry) → leaves_a_block (device_of v) visible ≡ true
+      → ((block : ℕ) → IsValueBlock (device_of v) block → state_at v block ≡ (if list_any (λ q. (q / 32) == block) (pages_named visible) then Closed else Free)) → HasBlock v
+  pub put : (old new : Values) (page : ℕ) → Puts old page new → free_room old ≢ 0 → HasBlock old → HasBlock new
+  pub copy : (old new : Values) (answer : Option ℕ) → Copies old answer new → HasBlock new
+  pub clear : (old new : Values) (block : ℕ) → Clears old block new → HasBlock new
+  pub mark : (old new : Values) → SamePlaces old new → HasBlock old → HasBlock new
 
 -- how many pages are live; a victim where there is little room; and room after a collection
 pub record SpaceIsEnough : Type 0 where

@@ -9,9 +9,9 @@ mod machines;
 mod marked;
 mod viewing;
 
-pub use calls::{outside_causes_agree, refusals_agree, transactions_agree};
-pub use collecting::{blocks_are_left, collections_move};
+pub use calls::{outside_causes_agree, refusals_agree, transactions_agree, values_stay};
+pub use collecting::{blocks_are_left, collections_end, collections_move, moves_are_a_group};
 pub use ending::{ends_agree, entries_tell_the_objects, sizes_are_counted};
 pub use machines::{faults_agree, machine_stays};
-pub use marked::{marked_pages_stand, marks_follow_entries, space_is_enough};
+pub use marked::{blocks_remain, marked_pages_stand, marks_follow_entries, space_is_enough};
 pub use viewing::{gets_are_views, iterates_are_views};
