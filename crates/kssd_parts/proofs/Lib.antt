@@ -1,1 +1,2 @@
 pub mod RunBlocks
+pub mod JobsDone

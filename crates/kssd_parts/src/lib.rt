@@ -4,6 +4,8 @@
 #[cfg(test)]
 mod anchor;
 #[cfg(test)]
+mod compact;
+#[cfg(test)]
 mod entries;
 #[cfg(test)]
 mod entry;
