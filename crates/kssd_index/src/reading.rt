@@ -148,4 +148,22 @@ impl Index {
         let found = first_kept(alloc, nand, stream)?;
         Ok(found)
     }
+
+    /// The newest entry of each key from a key on, deletion marks too, by rising keys; they are read
+    /// as they come. Without the marks these are the visible entries.
+    pub fn stream_from<N: Nand>(
+        &self,
+        alloc: Global,
+        nand: &mut N,
+        key: &Key,
+    ) -> Result<Stream, FlashFault>
+        requires { IsIndex self.now (N.flash nand.old).blocks (N.flash nand.old).image }
+        ensures stands { IfOk result (λ stream. StandsStream stream (N.flash nand.old).blocks (N.flash nand.old).image) }
+        ensures visible { IfOk result (λ stream. without_marks (stream_rest stream (N.flash nand.old).image) ≡ entries_from (shown_in (N.flash nand.old).image) key.now) }
+        ensures reads { OnOk result (OnlyReads (N.flash nand.old) (N.flash nand.new)) }
+        ensures err { IfErr result (λ fault. StopsReading (N.flash nand.old) fault (N.flash nand.new)) }
+    {
+        let stream = stream_from(alloc, nand, &self.table, &self.levels, key)?;
+        Ok(stream)
+    }
 }
