@@ -1,1 +1,4 @@
 pub mod Single
+pub mod Prefixes
+pub mod Pairing
+pub mod Pairs

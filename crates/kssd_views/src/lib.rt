@@ -3,6 +3,8 @@
 #![tactic(auto)]
 
 mod getting;
+mod listing;
 mod value;
 
 pub use getting::get;
+pub use listing::iterate;
