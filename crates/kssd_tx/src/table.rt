@@ -1,4 +1,4 @@
-ghost use Rattle.std.specs.Prelude.{◌≡◌, ◌<◌, ◌≤◌, ◌↔◌, ℕ, [], true, Some, None, ◌∷◌, List, length, take, slice_get, is_none, position, IsSome, IfOk, IfErr, OnOk, OnErr, IfSome, IsErrOf, option_copied};
+ghost use Rattle.std.specs.Prelude.{◌≡◌, ◌<◌, ◌≤◌, ◌↔◌, ℕ, [], true, Some, None, ◌∷◌, List, length, take, slice_get, is_none, is_some, position, IsSome, IfOk, IfErr, OnOk, OnErr, IfSome, IsErrOf, option_copied};
 ghost use Rattle.std.specs.Option.{option_and_then};
 ghost use Rattle.kssd_entry.specs.Spelling.{key_of};
 ghost use Rattle.kssd_model.specs.Rising.{is_rising, entries_from, put_entry};
@@ -101,8 +101,27 @@ impl TxTable {
         Ok(())
     }
 
-    // Why a change of a key is refused.
-    fn refusal(&self, tx: TxId, key: &Key) -> Option<TxFault>
+    /// Whether a transaction of this number is open.
+    pub fn is_open(&self, tx: TxId) -> bool
+        ensures { result ≡ is_some (list_of self.now tx.0) }
+    {
+        self.list(tx).is_some()
+    }
+
+    /// The changes of a transaction by rising keys; none where it isn't open.
+    pub fn changes(&self, tx: TxId) -> &[Entry]
+        ensures value { result.now ≡ changes_of self.now tx.0 }
+        ensures list { IsChangeList (changes_of self.now tx.0) }
+        ensures sound { AreLists self.now }
+    {
+        match self.list(tx) {
+            Some(list) => list.as_slice(),
+            None => &[],
+        }
+    }
+
+    /// Why a change of a key is refused: its transaction isn't open, or it is full for the key.
+    pub fn refusal(&self, tx: TxId, key: &Key) -> Option<TxFault>
         ensures { result ≡ set_refusal self.now tx.0 key.now }
     {
         match self.list(tx) {
