@@ -1,0 +1,11 @@
+-- How many operations and reads a collection takes.
+use Rattle.std.specs.Prelude.{◌+◌, ◌^◌, ℕ}
+use Rattle.kssd_index.specs.Costs.{most_place_cost}
+
+-- at most so many operations: 34 to copy a block's pages, those that make place, 264 for a group, and an erase
+abbrev pub most_collect_cost : ℕ → ℕ
+most_collect_cost blocks = most_place_cost blocks + 299
+
+-- at most so many reads
+abbrev pub most_collect_reads : ℕ
+most_collect_reads = 2 ^ 64 + 68

@@ -1,0 +1,7 @@
+//! The collection of a block of values, whole: its values are moved to other pages, and then it is
+//! erased.
+#![tactic(auto)]
+
+mod collection;
+
+pub use collection::collect;
