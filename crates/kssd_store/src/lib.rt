@@ -1,0 +1,8 @@
+//! Setting the value of a key in a transaction of a device that is up: a small one among the changes, a
+//! large one in a page of its own.
+#![tactic(auto)]
+
+mod refusing;
+mod setting;
+
+pub use setting::set;
