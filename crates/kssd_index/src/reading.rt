@@ -110,7 +110,14 @@ fn stream_from<N: Nand>(
 
 impl Index {
     ghost use Rattle.kssd_image.specs.Stages.{shown_in};
-    ghost use Rattle.kssd_index.specs.Standing.{IsIndex, index_table};
+    ghost use Rattle.kssd_index.specs.Standing.{IsIndex, index_age, index_table};
+
+    /// At least the greatest number of eight bytes in the newest anchor and in the pages of its log.
+    pub fn age(&self) -> u64
+        ensures { result ≡ index_age self.now }
+    {
+        self.age
+    }
 
     /// The visible entry of a key. At most six pages are read, and at least one where it isn't the
     /// log's.
