@@ -1,13 +1,12 @@
 -- What faults in the middle of a write say of its beginning, and the counts of keys.
-use Rattle.std.proofs.Common.{◌≡◌, ℕ, ◌<◌, ◌≤◌, ◌+◌, ◌-◌, ◌*◌, ◌/◌, ◌%◌, ◌^◌, ◌&&◌, inl, inr, false, true, Bool, refl, sym, ap, subst, arith, List, length, min, nat_lt}
+use Rattle.std.proofs.Common.{◌≡◌, ℕ, ◌≤◌, ◌+◌, ◌&&◌, inl, inr, false, true, Bool, refl, subst, arith, List, length, nat_lt}
 use Rattle.kv_device.specs.declared.fault.DeviceFault.{DeviceFault}
 use Rattle.kv_device.specs.declared.fault.DeviceFault.TheVariants.{NoTx, Busy, TxFull, Full, BadSize, Off, Failed, Memory}
 use Rattle.kv_device.specs.Machine.{Machine, Transactions}
 use Rattle.kfs_objects.specs.Keys.{be64, be32, chunk_key}
-use Rattle.kfs_tx.specs.Run.{Run, IsReady, changed_keys, put_in, GetFault, PutFault, Caused, CausedAlone, Fallen, HasCause}
-use Rattle.kfs_tx.proofs.Seeing.{keys_put}
+use Rattle.kfs_tx.specs.Run.{Run, IsReady, changed_keys, Caused, CausedAlone, Fallen, HasCause}
 use Rattle.kfs_tx.proofs.Falling.{get_falls, put_falls}
-use Rattle.kfs_file.specs.Contents.{Fails, PieceFault, CutFault, ChangesAtMost, pending_of, with_piece, touched}
+use Rattle.kfs_file.specs.Contents.{Fails, PieceFault, CutFault, ChangesAtMost, pending_of}
 
 -- a cause alone is a cause
 pub caused_alone : (m : Machine) (fault : DeviceFault) (new : Machine) → CausedAlone m fault new → Caused m fault new

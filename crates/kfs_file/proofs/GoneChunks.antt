@@ -1,19 +1,17 @@
 -- The chunks of a file are deleted one by one.
-use Rattle.std.proofs.Common.{◌≡◌, ◌≢◌, ℕ, zero, suc, ◌<◌, ◌≤◌, ◌+◌, ◌-◌, ◌^◌, ◌⊎◌, inl, inr, true, false, cond, refl, sym, ◌∙◌, ap, subst, arith, List, Option, Some, None, length, unwrap_or}
-use Rattle.std.specs.Ordering.{eq_by_cmp}
+use Rattle.std.proofs.Common.{◌≡◌, ◌≢◌, ℕ, ◌<◌, ◌≤◌, ◌+◌, ◌-◌, ◌⊎◌, inl, inr, cond, refl, sym, ◌∙◌, ap, subst, arith, List, Some, None, unwrap_or}
 use Rattle.std.specs.Cmp.Lexicographic.{nat_list_cmp_total}
 use Rattle.std.specs.FinMap as objects
 use Rattle.std.proofs.lemmas.List.{length-set}
-use Rattle.kv_device.specs.Bytes.{bytes_cmp}
 use Rattle.kv_device.specs.declared.fault.DeviceFault.{DeviceFault}
 use Rattle.kv_device.specs.Machine.{Machine, changes_of}
 use Rattle.kv_device.specs.Objects.{Objects}
 use Rattle.kfs_objects.specs.Keys.{chunk_key}
-use Rattle.kfs_tx.specs.Run.{Run, IsReady, changed_keys, deleted_in, seen, Caused, Fallen}
+use Rattle.kfs_tx.specs.Run.{Run, changed_keys, deleted_in, seen, Caused, Fallen}
 use Rattle.kfs_tx.proofs.Falling.{delete_falls, only_memory_falls}
 use Rattle.kfs_tx.proofs.Seeing.{ready_deleted, seen_deleted, keys_deleted}
 use Rattle.kfs_shows.proofs.Lookups.{decide_bytes, tie_test, apart_test, same_bytes}
-use Rattle.kfs_file.specs.Contents.{RemovesChunks, RemoveFault, Fails, ChangesAtMost, pending_of}
+use Rattle.kfs_file.specs.Contents.{RemovesChunks, RemoveFault, Fails, ChangesAtMost}
 use Rattle.kfs_file.proofs.Failing.{cause_before, fallen_before}
 
 removed_here : (m : Objects) (k : List ℕ) → objects.get (objects.remove m k) k ≡ None

@@ -2,7 +2,7 @@
 use Rattle.std.proofs.Common.{◌≡◌, ◌≢◌, ℕ, ◌<◌, ◌≤◌, ◌+◌, ◌-◌, ◌*◌, ◌^◌, ◌⊎◌, inl, inr, refl, sym, ◌∙◌, ap, subst, arith, List, [], ◌∷◌, ◌++◌, ◌/◌, ◌%◌, zero, suc, min, take, drop, length, get_or, IfSome, Option, Some, None}
 use Rattle.std.specs.Option.{unwrap_or}
 use Rattle.std.specs.FinMap as objects
-use Rattle.std.proofs.lemmas.List.{length-append, length-take-le, length-drop, take_all}
+use Rattle.std.proofs.lemmas.List.{length-append, length-take-le, length-drop, take_all, drop_all, append-nil}
 use Rattle.kfs_objects.specs.Keys.{chunk_key}
 use Rattle.kfs_model.specs.Tree.{written}
 use Rattle.kfs_shows.specs.Shows.{IsPiece}
@@ -10,7 +10,7 @@ use Rattle.kfs_shows.proofs.Lookups.{key_put, key_other, decide_number}
 use Rattle.kfs_shows.proofs.KeysApart.{same_chunk}
 use Rattle.kfs_tx.specs.Run.{Run, seen, put_in}
 use Rattle.kfs_tx.proofs.Seeing.{ready_put, seen_put}
-use Rattle.kfs_file.specs.Contents.{HoldsFile, WritesFile, piece_in, with_piece}
+use Rattle.kfs_file.specs.Contents.{HoldsFile, WritesFile, piece_in, rewritten, with_piece}
 use Rattle.kfs_file.proofs.Written.{nat_split, length_written, written_before, written_within, written_after, written_more}
 
 -- where the piece ends
@@ -39,6 +39,21 @@ piece_written o b c s d piece fits some =
       ];
       within = (omega arith, omega arith, elim (ends o b c piece) [ inl none ↦ omega arith | inr le ↦ omega arith ]);
     }
+
+-- a chunk that is written whole is what was given
+pub whole_chunk : (old d : List ℕ) → length old ≤ 4096 → length d ≡ 4096 → written old 0 d ≡ d
+whole_chunk old d short full = let e : drop (0 + length d) old ≡ [] = drop_all (0 + length d) old (omega arith) in ap (λ rest. d ++ rest) e ∙ append-nil d
+
+pub piece_rewritten : (o : Option (List ℕ)) (b : List ℕ) (c s : ℕ) (d : List ℕ) → IsPiece o b c → s + length d ≤ 4096 → 0 < length d → IsPiece (Some (rewritten (unwrap_or o []) s d)) (written b (4096 * c + s) d) c
+piece_rewritten o b c s d piece fits some =
+    let part = piece_written o b c s d piece fits some in
+    subst (λ bytes. IsPiece (Some bytes) (written b (4096 * c + s) d) c) (same_piece (unwrap_or o []) s d (short_piece o b c piece) fits) part
+  where
+    same_piece : (old : List ℕ) (s : ℕ) (d : List ℕ) → length old ≤ 4096 → s + length d ≤ 4096 → written old s d ≡ rewritten old s d
+    same_piece old s d short fits = elim (decide_number (length d) 4096) [
+      | inl full ↦ let at : s ≡ 0 = omega arith in subst (λ k. written old k d ≡ rewritten old k d) (sym at) (whole_chunk old d short full ∙ grind (arith, full))
+      | inr part ↦ grind (arith, part)
+    ]
 
 -- what lies within a file lies within a longer one
 pub within_longer : (o : Option (List ℕ)) (n m k : ℕ) → n ≤ m → IfSome o (λ piece. (0 < length piece) × (length piece ≤ 4096) × (4096 * k + length piece ≤ n)) → IfSome o (λ piece. (0 < length piece) × (length piece ≤ 4096) × (4096 * k + length piece ≤ m))
@@ -84,7 +99,7 @@ pub writes_more : (old mid new : Run) (node p c s : ℕ) (xs ys : List ℕ) → 
     → WritesFile old node p (xs ++ ys) new
 writes_more old mid new node p c s xs ys before is low place fits some long =
     let key = chunk_key node c in
-    let value = written (piece_in (seen mid) node c) s ys in
+    let value = rewritten (piece_in (seen mid) node c) s ys in
     subst (WritesFile old node p (xs ++ ys)) (sym is) (record {
       ready = λ h. ready_put mid key value (before.ready h);
       holds = λ bytes ready lt room held.
@@ -95,7 +110,7 @@ writes_more old mid new node p c s xs ys before is low place fits some long =
             | inl same ↦
                 subst (λ (j : ℕ). IsPiece (objects.get (objects.insert (seen mid) key value) (chunk_key node j)) (written whole (4096 * c + s) ys) j) (sym same)
                 (subst (λ (o : Option (List ℕ)). IsPiece o (written whole (4096 * c + s) ys) c) (sym (key_put (seen mid) key value))
-                (piece_written (objects.get (seen mid) key) whole c s ys (was.pieces c low) fits some))
+                (piece_rewritten (objects.get (seen mid) key) whole c s ys (was.pieces c low) fits some))
             | inr other ↦
                 subst (λ (o : Option (List ℕ)). IsPiece o (written whole (4096 * c + s) ys) k) (sym (key_other (seen mid) key value (chunk_key node k) (λ e. other (same_chunk node node k c lt lt lk low e).1)))
                 (piece_other (objects.get (seen mid) (chunk_key node k)) whole k c s ys piece other fits)

@@ -1,5 +1,5 @@
 -- What is read chunk by chunk is the file's bytes.
-use Rattle.std.proofs.Common.{◌≡◌, ℕ, zero, suc, ◌<◌, ◌≤◌, ◌+◌, ◌-◌, ◌*◌, ◌/◌, ◌%◌, ◌^◌, ◌⊎◌, inl, inr, min, max, refl, sym, ◌∙◌, ap, subst, arith, List, [], ◌∷◌, ◌++◌, length, get_or, take, drop, Option}
+use Rattle.std.proofs.Common.{◌≡◌, ℕ, ◌<◌, ◌≤◌, ◌+◌, ◌-◌, ◌*◌, ◌/◌, ◌%◌, ◌^◌, ◌⊎◌, inl, inr, min, max, sym, ◌∙◌, ap, arith, List, [], ◌++◌, length, get_or, take, drop, Option}
 use Rattle.std.specs.Option.{unwrap_or}
 use Rattle.std.specs.FinMap as objects
 use Rattle.std.proofs.lemmas.List.{length-take-le, length-drop, take_all, get_or-take, get_or-drop}
@@ -8,7 +8,7 @@ use Rattle.kv_device.specs.Objects.{Objects}
 use Rattle.kfs_objects.specs.Keys.{chunk_key}
 use Rattle.kfs_model.specs.Tree.{padded}
 use Rattle.kfs_shows.specs.Shows.{IsPiece}
-use Rattle.kfs_file.specs.Contents.{HoldsFile, ReadsFile, piece_at, piece_in}
+use Rattle.kfs_file.specs.Contents.{ReadsFile, piece_at, piece_in}
 use Rattle.kfs_file.proofs.Written.{length_padded, padded_at}
 use Rattle.kfs_file.proofs.Pieces.{take_both}
 

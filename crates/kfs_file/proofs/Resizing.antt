@@ -1,5 +1,5 @@
 -- A file's chunks after it is cut short or followed by zeros.
-use Rattle.std.proofs.Common.{◌≡◌, ◌≢◌, ℕ, ◌<◌, ◌≤◌, ◌+◌, ◌-◌, ◌*◌, ◌/◌, ◌%◌, ◌^◌, ◌⊎◌, inl, inr, true, false, Bool, cond, refl, sym, ◌∙◌, ap, subst, arith, List, [], length, get_or, take, nat_lt, IfSome, Option, Some, None, OnOk, Result, Ok, Err}
+use Rattle.std.proofs.Common.{◌≡◌, ℕ, ◌<◌, ◌≤◌, ◌+◌, ◌*◌, ◌/◌, ◌%◌, ◌^◌, ◌⊎◌, inl, inr, true, false, Bool, cond, refl, sym, ◌∙◌, ap, subst, arith, List, [], length, get_or, take, nat_lt, IfSome, Option, Some, None}
 use Rattle.std.specs.Option.{unwrap_or}
 use Rattle.std.specs.FinMap as objects
 use Rattle.std.proofs.lemmas.Bool.Decides.{nat_tests}
@@ -11,7 +11,7 @@ use Rattle.kfs_shows.proofs.Lookups.{key_put, key_other, decide_number}
 use Rattle.kfs_shows.proofs.KeysApart.{same_chunk}
 use Rattle.kfs_tx.specs.Run.{Run, IsReady, changed_keys, seen, put_in}
 use Rattle.kfs_tx.proofs.Seeing.{ready_put, seen_put, keys_put}
-use Rattle.kfs_file.specs.Contents.{HoldsFile, ResizesFile, CutsFile, RemovesChunks, pending_of, piece_in, with_cut}
+use Rattle.kfs_file.specs.Contents.{ResizesFile, CutsFile, RemovesChunks, piece_in, with_cut}
 use Rattle.kfs_file.proofs.Written.{nat_split, length_padded, padded_at}
 use Rattle.kfs_file.proofs.Pieces.{short_piece, within_longer}
 

@@ -1,12 +1,10 @@
 -- What a write of many chunks takes, chunk by chunk: keys of the transaction, and ages.
-use Rattle.std.proofs.Common.{◌≡◌, ℕ, ◌<◌, ◌≤◌, ◌+◌, ◌-◌, ◌*◌, ◌/◌, ◌%◌, ◌^◌, sym, ap, ◌∙◌, subst, arith, List, min, max}
-use Rattle.kv_device.specs.Calls.{Ages}
+use Rattle.std.proofs.Common.{◌≡◌, ℕ, ◌<◌, ◌≤◌, ◌+◌, ◌-◌, ◌*◌, ◌%◌, ◌^◌, sym, ap, ◌∙◌, subst, arith, List, min}
 use Rattle.kfs_tx.specs.Run.{Run, RunState, Aged, IsReady, age_of, changed_keys}
 use Rattle.kfs_tx.proofs.Seeing.{keys_put}
 use Rattle.kfs_objects.specs.Keys.{chunk_key}
-use Rattle.kfs_model.specs.Tree.{written}
 use Rattle.kfs_tx.specs.Run.{seen}
-use Rattle.kfs_file.specs.Contents.{touched, with_piece, piece_in}
+use Rattle.kfs_file.specs.Contents.{touched, with_piece, piece_in, rewritten}
 
 -- so much for each chunk, d of n bytes being written; what is left is to spare
 pub record Spent (old now unit p n d : ℕ) : Type 0 where
@@ -37,7 +35,7 @@ spent_on old mid new unit p n d count before lt least one =
 
 -- one key for a piece
 pub one_key : (mid new : Run) (node c s : ℕ) (ys : List ℕ) → new ≡ with_piece mid node c s ys → IsReady mid → changed_keys new ≤ changed_keys mid + 1
-one_key mid new node c s ys is ready = subst (λ (r : Run). changed_keys r ≤ changed_keys mid + 1) (sym is) (keys_put mid (chunk_key node c) (written (piece_in (seen mid) node c) s ys) ready)
+one_key mid new node c s ys is ready = subst (λ (r : Run). changed_keys r ≤ changed_keys mid + 1) (sym is) (keys_put mid (chunk_key node c) (rewritten (piece_in (seen mid) node c) s ys) ready)
 
 -- both ages
 pub record AgesSpent (old now : RunState) (p n d : ℕ) : Type 0 where

@@ -1,5 +1,5 @@
 -- The chunks of a file, what a write does to them, and what a read gives.
-use Rattle.std.specs.Prelude.{ℕ, if◌then◌else◌, nat_lt, ◌≡◌, ◌≢◌, ◌<◌, ◌≤◌, ◌+◌, ◌-◌, ◌*◌, ◌/◌, ◌^◌, ◌⊎◌, List, [], length, take, drop, None}
+use Rattle.std.specs.Prelude.{ℕ, if◌then◌else◌, nat_lt, ◌==◌, ◌≡◌, ◌≢◌, ◌<◌, ◌≤◌, ◌+◌, ◌-◌, ◌*◌, ◌/◌, ◌^◌, ◌⊎◌, List, [], length, take, drop, None}
 use Rattle.std.specs.Option.{unwrap_or}
 use Rattle.std.specs.FinMap as objects
 use Rattle.kv_device.specs.declared.fault.DeviceFault.{DeviceFault}
@@ -20,12 +20,16 @@ pub record HoldsFile (m : Objects) (node : ℕ) (bytes : List ℕ) : Type 0 wher
 abbrev pub piece_in : Objects → ℕ → ℕ → List ℕ
 piece_in m node chunk = unwrap_or (objects.get m (chunk_key node chunk)) []
 
+-- a chunk's bytes with the given ones at a place, which are all of them where they fill it
+abbrev pub rewritten : List ℕ → ℕ → List ℕ → List ℕ
+rewritten old start given = if length given == 4096 then given else written old start given
+
 -- some bytes of one chunk
 abbrev pub with_piece : Run → ℕ → ℕ → ℕ → List ℕ → Run
-with_piece r node chunk start given = put_in r (chunk_key node chunk) (written (piece_in (seen r) node chunk) start given)
+with_piece r node chunk start given = put_in r (chunk_key node chunk) (rewritten (piece_in (seen r) node chunk) start given)
 
 abbrev pub PieceFault : Run → ℕ → ℕ → ℕ → List ℕ → DeviceFault → Machine → Type 0
-PieceFault r node chunk start given fault new = GetFault r fault new ⊎ PutFault r (chunk_key node chunk) (written (piece_in (seen r) node chunk) start given) fault new
+PieceFault r node chunk start given fault new = GetFault r fault new ⊎ PutFault r (chunk_key node chunk) (rewritten (piece_in (seen r) node chunk) start given) fault new
 
 -- the number of chunks that so many bytes from a place on lie in
 abbrev pub touched : ℕ → ℕ → ℕ

@@ -3,7 +3,7 @@ ghost use Rattle.std.specs.FinMap as objects;
 ghost use Rattle.kfs_objects.specs.Keys.{chunk_key};
 ghost use Rattle.kfs_model.specs.Tree.{written};
 ghost use Rattle.kfs_tx.specs.Run.{Aged, GetFault, age_of, seen};
-ghost use Rattle.kfs_file.specs.Contents.{ChangesAtMost, Fails, PieceFault, WritesFile, piece_in, touched, with_piece};
+ghost use Rattle.kfs_file.specs.Contents.{ChangesAtMost, Fails, PieceFault, WritesFile, piece_in, rewritten, touched, with_piece};
 
 use kfs_objects::chunk_key;
 use kfs_tx::Running;
@@ -40,7 +40,8 @@ fn value_of(alloc: Global, bytes: &[u8]) -> Result<Value, Memory>
     }
 }
 
-/// A chunk's object, with the given bytes at a place.
+/// A chunk's object, with the given bytes at a place. Bytes that fill the chunk are its object, and
+/// the old one isn't read.
 fn new_piece<D: Device>(
     alloc: Global,
     run: &mut Running<D>,
@@ -51,11 +52,14 @@ fn new_piece<D: Device>(
 ) -> Result<Value, DeviceFault>
     requires age { age_of run.old < 2 ^ 63 - 2 ^ 38 }
     requires fits { start + length given.now ≤ 4096 }
-    ensures gives { IfOk result (λ value. value ≡ written (piece_in (seen run.old.run) node chunk) start given.now) }
+    ensures gives { IfOk result (λ value. value ≡ rewritten (piece_in (seen run.old.run) node chunk) start given.now) }
     ensures same { OnOk result (run.new.run ≡ run.old.run) }
     ensures err { IfErr result (λ fault. GetFault run.old.run fault run.new.run.machine) }
     ensures age { Aged run.old run.new 0 }
 {
+    if given.len() == CHUNK {
+        return Ok(value_of(alloc, given)?);
+    }
     let key = chunk_key(alloc, node, chunk)?;
     let bytes = match run.get(alloc, &key)? {
         None => overwritten(alloc, &[], start, given)?,

@@ -1,4 +1,4 @@
-use Rattle.std.proofs.Common.{◌≡◌, ◌<◌, ◌≤◌, ◌+◌, ◌-◌, ◌%◌, ◌/◌, ◌++◌, ◌∙◌, ap, arith, min, List, ℕ}
+use Rattle.std.proofs.Common.{◌<◌, ◌%◌, ◌/◌, ◌++◌, ◌∙◌, ap, arith}
 use Rattle.kfs_tx.specs.Run.{Run, seen}
 use Rattle.kfs_file.specs.Contents.{piece_at, piece_in}
 use Rattle.kfs_file.proofs.ReadingPieces.{reads_on}

@@ -1,4 +1,4 @@
-use Rattle.std.proofs.Common.{◌<◌, ◌-◌, arith}
+use Rattle.std.proofs.Common.{◌-◌, arith}
 use Rattle.std.proofs.lemmas.Result.{err_from_is_err_and}
 use Rattle.kfs_file.proofs.GoneChunks.{removes_more, keys_more, removal_fails}
 use Rattle.kfs_file.proofs.removing.remove_chunks.Goals as goal

@@ -1,6 +1,5 @@
-use Rattle.std.proofs.Common.{◌<◌, ◌≤◌, ◌+◌, ◌/◌, ◌%◌, ◌^◌, ◌≡◌, arith}
+use Rattle.std.proofs.Common.{◌≤◌, ◌+◌, ◌/◌, ◌%◌, arith}
 use Rattle.std.proofs.lemmas.Result.{on_ok_weaker, IfErr-weaker}
-use Rattle.kfs_tx.specs.Run.{changed_keys}
 use Rattle.kfs_file.proofs.Failing.{cut_fails}
 use Rattle.kfs_file.proofs.Resizing.{cuts_nothing, cuts_piece, cut_keys}
 use Rattle.kfs_file.proofs.sizing.cut_end.Goals as goal

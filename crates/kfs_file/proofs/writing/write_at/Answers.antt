@@ -1,9 +1,9 @@
-use Rattle.std.proofs.Common.{◌<◌, ◌≤◌, ◌+◌, ◌-◌, ◌*◌, ◌/◌, ◌%◌, ◌≡◌, arith, length, min, take, drop}
+use Rattle.std.proofs.Common.{◌<◌, ◌+◌, ◌-◌, ◌/◌, ◌%◌, ◌≡◌, arith, length, min, take, drop}
 use Rattle.std.proofs.lemmas.Result.{err_from_is_err_and}
-use Rattle.kfs_tx.specs.Run.{changed_keys, IsReady}
+use Rattle.kfs_tx.specs.Run.{changed_keys}
 use Rattle.kfs_file.specs.Contents.{touched}
 use Rattle.kfs_file.proofs.Pieces.{writes_nothing, writes_on, rest_length}
-use Rattle.kfs_file.proofs.Spending.{spent_nothing, spent_on, one_key, one_to_spare, ages_nothing, ages_on, ages_end, still_young}
+use Rattle.kfs_file.proofs.Spending.{spent_nothing, spent_on, one_key, one_to_spare, ages_nothing, ages_on}
 use Rattle.kfs_file.proofs.Failing.{fails_between}
 use Rattle.kfs_file.proofs.writing.write_at.Goals as goal
 
