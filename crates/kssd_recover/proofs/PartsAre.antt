@@ -12,6 +12,7 @@ use Rattle.kssd_model.specs.Rising.{merged}
 use Rattle.kssd_image.specs.Stages.{anchor_of, the_anchor, runs_map, without_marks, merged_by, shown_by, shown_in}
 use Rattle.kssd_image.specs.Whole.{pages_named, has_its_value, is_value_block, Sound}
 use Rattle.kssd_frames.proofs.ShownLaws.{objects_len}
+use Rattle.kssd_layout.specs.declared.layout.Layout.{Layout}
 use Rattle.kssd_levels.specs.Levels.{levels_map}
 use Rattle.kssd_values.specs.declared.values.Values.{Values}
 use Rattle.kssd_values.specs.Places.{IsValueBlock}
@@ -80,12 +81,13 @@ places_few blocks image index visible most sound read counted = omega (arith, ap
 
 -- ---- all parts
 
-pub parts_are : (blocks : ℕ) (image : Image) (index : Index) (clean : Bool) (visible : Visible) (values : Values) → Sound blocks image → IsIndexRead blocks image index → (IsTrue clean ↔ IsErasedBlock image index.found.anchor.log_block) → IsCounted (merged index.log.entries (levels_map index.levels image)) visible → HasVisible blocks visible.places values
-    → AreParts blocks image (record { anchor_page = index.found.page; anchor = index.found.anchor; levels = index.levels; log = index.log.entries; clean = clean; last_block = index.log.last_block; next_seq = index.log.next_seq; values = values; keys = visible.keys; pages = length visible.places })
-parts_are blocks image index clean visible values sound read erased counted has =
+pub parts_are : (blocks : ℕ) (image : Image) (layout : Layout) (index : Index) (clean : Bool) (visible : Visible) (values : Values) → Sound blocks image → layout.blocks ≡ blocks → IsIndexRead blocks image index → (IsTrue clean ↔ IsErasedBlock image index.found.anchor.log_block) → IsCounted (merged index.log.entries (levels_map index.levels image)) visible → HasVisible blocks visible.places values
+    → AreParts blocks image (record { layout = layout; anchor_page = index.found.page; anchor = index.found.anchor; levels = index.levels; log = index.log.entries; clean = clean; last_block = index.log.last_block; next_seq = index.log.next_seq; values = values; keys = visible.keys; pages = length visible.places })
+parts_are blocks image layout index clean visible values sound device read erased counted has =
     let places = places_are blocks image index visible read counted in
     record {
       sound = sound;
+      device = device;
       found = read.found;
       levels = read.levels;
       log = read.log.entries;
@@ -98,11 +100,12 @@ parts_are blocks image index clean visible values sound read erased counted has 
     }
 
 -- the same where the pages were counted by their list
-pub with_pages : (blocks : ℕ) (image : Image) (index : Index) (clean : Bool) (visible : Visible) (values : Values) (pages : List ℕ) → pages ≡ visible.places
-    → AreParts blocks image (record { anchor_page = index.found.page; anchor = index.found.anchor; levels = index.levels; log = index.log.entries; clean = clean; last_block = index.log.last_block; next_seq = index.log.next_seq; values = values; keys = visible.keys; pages = length visible.places })
-    → AreParts blocks image (record { anchor_page = index.found.page; anchor = index.found.anchor; levels = index.levels; log = index.log.entries; clean = clean; last_block = index.log.last_block; next_seq = index.log.next_seq; values = values; keys = visible.keys; pages = length pages })
-with_pages blocks image index clean visible values pages same h = record {
+pub with_pages : (blocks : ℕ) (image : Image) (layout : Layout) (index : Index) (clean : Bool) (visible : Visible) (values : Values) (pages : List ℕ) → pages ≡ visible.places
+    → AreParts blocks image (record { layout = layout; anchor_page = index.found.page; anchor = index.found.anchor; levels = index.levels; log = index.log.entries; clean = clean; last_block = index.log.last_block; next_seq = index.log.next_seq; values = values; keys = visible.keys; pages = length visible.places })
+    → AreParts blocks image (record { layout = layout; anchor_page = index.found.page; anchor = index.found.anchor; levels = index.levels; log = index.log.entries; clean = clean; last_block = index.log.last_block; next_seq = index.log.next_seq; values = values; keys = visible.keys; pages = length pages })
+with_pages blocks image layout index clean visible values pages same h = record {
   sound = h.sound;
+  device = h.device;
   found = h.found;
   levels = h.levels;
   log = h.log;

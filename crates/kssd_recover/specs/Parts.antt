@@ -44,6 +44,7 @@ pub record HasVisible (blocks : ℕ) (visible : List ℕ) (values : Values) : Ty
 -- the parts of a sound image: its newest anchor, the runs that stand as that anchor names them, the newest entry of each key in the log and where the log goes on, the visible pages, and how many objects there are
 pub record AreParts (blocks : ℕ) (image : Image) (parts : Parts) : Type 0 where
   pub sound : Sound blocks image
+  pub device : parts.layout.blocks ≡ blocks
   pub found : newest_in image ≡ Some (record { page = parts.anchor_page; anchor = parts.anchor })
   pub levels : AreOpened parts.anchor.runs blocks image parts.levels
   pub log : parts.log ≡ log_map image (32 * parts.anchor.log_block) parts.anchor.log_seq

@@ -20,6 +20,8 @@ use std::alloc::Global;
 /// What a device holds, and where it goes on.
 #[derive(Debug, Drop)]
 pub struct Parts {
+    /// The numbers of the device.
+    pub layout: Layout,
     /// The page of the newest anchor.
     pub anchor_page: u32,
     /// The newest anchor.
@@ -54,7 +56,8 @@ fn layout_of(blocks: u16) -> Layout
 }
 
 /// Reads what a device holds, and programs and erases nothing. The image is sound; an image that a
-/// mount refuses is answered by its first damage. The flash has 256 to 2,048 blocks.
+/// mount refuses is answered by its first damage. The flash has 256 to 2,048 blocks, and power where
+/// this is answered.
 pub fn recover<N: Nand>(alloc: Global, nand: &mut N) -> Result<Parts, MountFault>
     requires blocks { (256 ≤ (N.flash nand.old).blocks) × ((N.flash nand.old).blocks ≤ 2048) }
     requires sound { Sound (N.flash nand.old).blocks (N.flash nand.old).image }
@@ -75,6 +78,7 @@ pub fn recover<N: Nand>(alloc: Global, nand: &mut N) -> Result<Parts, MountFault
     let values = Values::open(alloc, &layout, &places)?;
     let pages = places.as_slice().len() as u32;
     Ok(Parts {
+        layout,
         anchor_page: page,
         anchor,
         levels,

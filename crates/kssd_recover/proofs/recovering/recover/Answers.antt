@@ -47,5 +47,5 @@ returns-clause-ok g c =
     let blocks = c.layout_of-layout.ensures ∙ c.blocks-2.ensures in
     let values = c.in_ok-values.ensures in
     let has = subst (λ (n : ℕ). HasVisible n c.in_ok-places.field-0.places c.in_ok-values.values) blocks (record { device = values.device; marks = values.marks; states = values.states; opened = values.none.0; target = values.none.1 }) in
-    with_pages (flash c.args.nand.now).blocks (flash c.args.nand.now).image c.in_ok-found.field-0 c.in_ok-clean.clean c.in_ok-places.field-0 c.in_ok-values.values c.as_slice.result.now c.as_slice.ensures
-    (parts_are (flash c.args.nand.now).blocks (flash c.args.nand.now).image c.in_ok-found.field-0 c.in_ok-clean.clean c.in_ok-places.field-0 c.in_ok-values.values c.requires.sound c.in_ok-found.ensures.ok erased counted has)
+    with_pages (flash c.args.nand.now).blocks (flash c.args.nand.now).image c.layout_of-layout.result c.in_ok-found.field-0 c.in_ok-clean.clean c.in_ok-places.field-0 c.in_ok-values.values c.as_slice.result.now c.as_slice.ensures
+    (parts_are (flash c.args.nand.now).blocks (flash c.args.nand.now).image c.layout_of-layout.result c.in_ok-found.field-0 c.in_ok-clean.clean c.in_ok-places.field-0 c.in_ok-values.values c.requires.sound blocks c.in_ok-found.ensures.ok erased counted has)
