@@ -14,7 +14,7 @@ use Rattle.kssd_machine.specs.Machines.{machine_of, resting}
 use Rattle.kssd_machine.specs.Marked.{AreMarked, HasBlock}
 use Rattle.kssd_mounted.specs.declared.mounted.Mounted.{Mounted}
 
--- a device stands on a flash with power that a mount takes: its index and values are the image's, each pending value stands in its page, no block is being copied into, a page has the mark of the entry that names it, and the two counts are those of the visible entries
+-- a device stands on a flash with power that a mount takes: its index and values are the image's, each pending value stands in its page, no block is being copied into, a page has the mark of the entry that names it, there are four transactions, open or not, and the two counts are those of the visible entries
 pub record Stands (m : Mounted) (flash : Flash) : Type 0 where
   pub powered : flash.powered ≡ true
   pub least : 256 ≤ flash.blocks
@@ -24,6 +24,7 @@ pub record Stands (m : Mounted) (flash : Flash) : Type 0 where
   pub device : device_of m.values ≡ flash.blocks
   pub fills : Fills m.values flash.image
   pub idle : has_target m.values ≡ false
+  pub four : length m.changes ≡ 4
   pub rising : are_rising m.changes ≡ true
   pub valued : are_valued flash.blocks flash.image m.changes ≡ true
   pub marked : AreMarked m.values (shown_in flash.image) m.changes

@@ -1,7 +1,14 @@
 //! A device that is up, over a flash that is lent to its calls: the index, the values, the changes of
-//! open transactions, and how much there is.
+//! open transactions, and how much there is. Calls that write nothing to the flash, and what stays of
+//! the device where the flash changes.
 #![tactic(auto)]
 
+mod fault;
+mod marking;
 mod mounted;
+mod transacting;
+mod viewing;
 
+pub use fault::{device_fault, tx_fault};
+pub use marking::mark_entries;
 pub use mounted::Mounted;
