@@ -3,12 +3,14 @@
 //! the device where the flash changes.
 #![tactic(auto)]
 
+mod beside;
 mod fault;
 mod marking;
 mod mounted;
 mod transacting;
 mod viewing;
 
+pub use beside::indexes_stay_beside_values;
 pub use fault::{device_fault, tx_fault};
 pub use marking::mark_entries;
 pub use mounted::Mounted;
