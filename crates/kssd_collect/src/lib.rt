@@ -3,5 +3,6 @@
 #![tactic(auto)]
 
 mod collection;
+mod copying;
 
 pub use collection::collect;
