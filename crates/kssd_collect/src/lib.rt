@@ -4,5 +4,7 @@
 
 mod collection;
 mod copying;
+mod logging;
+mod marking;
 
 pub use collection::collect;

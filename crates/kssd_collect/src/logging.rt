@@ -1,0 +1,86 @@
+// Putting the moves of values into the index.
+ghost use Rattle.std.specs.Prelude.{◌≡◌, ◌≤◌, ◌+◌, ◌^◌, true, length, [], IfOk, OnOk, IfErr};
+ghost use Rattle.kv_nand.specs.Working.{Works, Stops};
+ghost use Rattle.kssd_layout.specs.Numbers.{max_keys_in, max_pages_in};
+ghost use Rattle.kssd_model.specs.Rising.{is_rising, merged};
+ghost use Rattle.kssd_image.specs.Stages.{shown_in};
+ghost use Rattle.kssd_image.specs.Whole.{pages_named, age_in};
+ghost use Rattle.kssd_index.specs.Standing.{IsIndex, index_age};
+ghost use Rattle.kssd_index.specs.Mapping.{with_entries, IsKept, IsBeforeOrAfter};
+ghost use Rattle.kssd_index.specs.Costs.{has_place_in, most_place_cost};
+
+use kssd_entry::Entries;
+use kssd_index::Index;
+use kssd_model::copies_of;
+use kssd_table::Table;
+use kv_base::Memory;
+use kv_nand::{FlashFault, Nand};
+use std::alloc::Global;
+
+// The entries by rising keys, the last one of each key.
+pub fn in_order(alloc: Global, entries: &Entries) -> Result<Entries, Memory>
+    requires few { length entries.now ≤ 2048 }
+    ensures { IfOk result (λ ordered. ordered ≡ merged entries.now []) }
+{
+    let mut table = Table::new(alloc)?;
+    for entry in entries.as_slice() {
+        table.put(alloc, entry.copy(alloc)?)?;
+    }
+    let ordered = copies_of(alloc, table.entries())?;
+    Ok(ordered)
+}
+
+// Makes place for a group of these entries, where there is none.
+fn find_place<N: Nand>(
+    alloc: Global,
+    nand: &mut N,
+    index: &mut Index,
+    entries: &Entries,
+) -> Result<(), FlashFault>
+    requires stands { IsIndex index.old (N.flash nand.old).blocks (N.flash nand.old).image }
+    requires size { length entries.now ≤ 640 }
+    requires rising { is_rising entries.now ≡ true }
+    requires number { index_age index.old + 2 ^ 20 ≤ 2 ^ 63 }
+    ensures stands { OnOk result (IsIndex index.new (N.flash nand.new).blocks (N.flash nand.new).image) }
+    ensures place { OnOk result (has_place_in index.new entries.now ≡ true) }
+    ensures kept { IsKept (N.flash nand.old).blocks (N.flash nand.old).image (N.flash nand.new).image }
+    ensures aged { age_in (N.flash nand.new).image ≤ index_age index.new }
+    ensures ages { index_age index.new ≤ index_age index.old + 2 ^ 8 }
+    ensures works { OnOk result (Works (N.flash nand.old) (N.flash nand.new) (most_place_cost (N.flash nand.old).blocks) (2 ^ 64)) }
+    ensures stops { IfErr result (λ fault. Stops (N.flash nand.old) fault (N.flash nand.new) (most_place_cost (N.flash nand.old).blocks) (2 ^ 64)) }
+{
+    if index.has_place(entries) {
+        return Ok(());
+    }
+    index.make_place(alloc, nand, entries)?;
+    Ok(())
+}
+
+// Puts entries by rising keys over the visible ones, all at once.
+pub fn log_entries<N: Nand>(
+    alloc: Global,
+    nand: &mut N,
+    index: &mut Index,
+    entries: &Entries,
+) -> Result<(), FlashFault>
+    requires stands { IsIndex index.old (N.flash nand.old).blocks (N.flash nand.old).image }
+    requires size { length entries.now ≤ 640 }
+    requires rising { is_rising entries.now ≡ true }
+    requires keys { length (with_entries (shown_in (N.flash nand.old).image) entries.now) ≤ max_keys_in (N.flash nand.old).blocks }
+    requires pages { length (pages_named (with_entries (shown_in (N.flash nand.old).image) entries.now)) ≤ max_pages_in (N.flash nand.old).blocks }
+    requires number { index_age index.old + 2 ^ 21 ≤ 2 ^ 63 }
+    ensures stands { OnOk result (IsIndex index.new (N.flash nand.new).blocks (N.flash nand.new).image) }
+    ensures shown { OnOk result (shown_in (N.flash nand.new).image ≡ with_entries (shown_in (N.flash nand.old).image) entries.now) }
+    ensures kept { IsBeforeOrAfter (N.flash nand.old).blocks (N.flash nand.old).image entries.now (N.flash nand.new).image }
+    ensures aged { age_in (N.flash nand.new).image ≤ index_age index.new }
+    ensures ages { index_age index.new ≤ index_age index.old + 2 ^ 9 }
+    ensures works { OnOk result (Works (N.flash nand.old) (N.flash nand.new) (most_place_cost (N.flash nand.old).blocks + 264) (2 ^ 64)) }
+    ensures stops { IfErr result (λ fault. Stops (N.flash nand.old) fault (N.flash nand.new) (most_place_cost (N.flash nand.old).blocks + 264) (2 ^ 64)) }
+{
+    if entries.len() == 0 {
+        return Ok(());
+    }
+    find_place(alloc, nand, index, entries)?;
+    index.append(alloc, nand, entries)?;
+    Ok(())
+}
