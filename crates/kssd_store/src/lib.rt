@@ -2,7 +2,11 @@
 //! large one in a page of its own.
 #![tactic(auto)]
 
+mod large;
+mod naming;
+mod putting;
 mod refusing;
+mod room;
 mod setting;
 
 pub use setting::set;

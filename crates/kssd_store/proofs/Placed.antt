@@ -1,0 +1,126 @@
+-- A device after a value was put in a page, and a change names that.
+use Rattle.std.proofs.Common.{◌≡◌, ◌≢◌, ◌⊎◌, ◌∙◌, ℕ, ◌≤◌, ◌/◌, Bool, true, false, cond, ◌||◌, eqb, List, [], ◌∷◌, length, None, inl, inr, refl, sym, ap, subst}
+use Rattle.std.proofs.lemmas.Bool.{eqb-true}
+use Rattle.kv_nand.specs.Flash.{Flash, Erased}
+use Rattle.kv_nand.specs.Working.{Works}
+use Rattle.kv_nand.proofs.Chaining.{works_blocks, works_powered}
+use Rattle.kv_device.specs.Calls.{SetDone}
+use Rattle.kv_device.specs.Calls as refusals
+use Rattle.kssd_entry.specs.declared.entry.Entry.{Entry}
+use Rattle.kssd_entry.specs.declared.entry.Entry.TheVariants.{At}
+use Rattle.kssd_image.specs.ValuePages.{HoldsValue}
+use Rattle.kssd_image.specs.Stages.{shown_in}
+use Rattle.kssd_image.specs.Whole.{pages_named, IsWhole}
+use Rattle.kssd_tx.specs.Lists.{Transactions, change_of}
+use Rattle.kssd_values.specs.declared.mark.Mark.{Mark}
+use Rattle.kssd_values.specs.declared.mark.Mark.TheVariants.{Dead}
+use Rattle.kssd_values.specs.declared.values.Values.{Values}
+use Rattle.kssd_values.specs.Places.{IsValueBlock}
+use Rattle.kssd_values.specs.Blocks.{mark_at, free_room}
+use Rattle.kssd_values.specs.Pages.{Fills, KeepsPages}
+use Rattle.kssd_values.specs.Changes.{SamePlaces, Puts}
+use Rattle.kssd_index.specs.declared.index.Index.{Index}
+use Rattle.kssd_index.specs.Standing.{IsIndex}
+use Rattle.kssd_reclaim.specs.Sources.{is_visible}
+use Rattle.kssd_machine.specs.Names.{are_rising, are_valued}
+use Rattle.kssd_machine.specs.Machines.{machine_of}
+use Rattle.kssd_machine.specs.Marked.{is_pending, AreMarked, is_named, WereDead}
+use Rattle.kssd_machine.specs.Calling.{with_entry}
+use Rattle.kssd_machine.proofs.Standing.{stays, works_same}
+use Rattle.kssd_machine.proofs.Transacting.{sets_page, rising_with}
+use Rattle.kssd_machine.proofs.Keeping.{fresh_is_dead}
+use Rattle.kssd_machine.proofs.Remaining.{block_after_put, block_after_mark}
+use Rattle.kssd_machine.proofs.Tagging.{sets}
+use Rattle.kssd_machine.proofs.Valuing.{holds, valued_with}
+use Rattle.kssd_mounted.specs.declared.mounted.Mounted.{Mounted}
+use Rattle.kssd_mounted.specs.Standing.{Stands, machine_at}
+use Rattle.kssd_store.specs.Setting.{page_of, marks_after}
+use Rattle.kssd_store.proofs.Allowed.{may_set}
+use Rattle.kssd_store.proofs.Kept.{image_kept, objects_kept, pending_kept, valued_kept}
+use Rattle.kssd_store.proofs.Indexed.{index_kept}
+use Rattle.kssd_store.proofs.Renaming.{older_lives, remarks_are}
+
+-- a value was put in a page, and that was named in a change in place of the older page of its key
+pub record IsPlaced (m n : Mounted) (old new : Flash) (v : Values) (tx page : ℕ) (key value : List ℕ) : Type 0 where
+  pub stood : Stands m old
+  pub allowed : refusals.set_refusal (machine_at old m) tx key value ≡ None
+  pub room : free_room m.values ≢ 0
+  pub puts : Puts m.values page v
+  pub holds_value : HoldsValue key value (new.image page)
+  pub free : (mark_at m.values page ≡ Dead) ⊎ (old.image page ≡ Erased)
+  pub fills : Fills v new.image
+  pub keeps : KeepsPages m.values old.image new.image
+  pub works : Works old new 2 0
+  pub changes : n.changes ≡ with_entry m.changes tx (At key page (length value))
+  pub marks : (q : ℕ) → mark_at n.values q ≡ marks_after (mark_at v) page (page_of (change_of m.changes tx key)) q
+  pub places : SamePlaces v n.values
+  pub rest : n ≡ record m { values = n.values; changes = n.changes }
+
+-- ---- the machine
+
+pub set_done : (m n : Mounted) (old new : Flash) (v : Values) (tx page : ℕ) (key value : List ℕ) → IsPlaced m n old new v tx page key value → SetDone (machine_at old m) tx key value (machine_at new n)
+set_done m n old new v tx page key value placed =
+    let may = may_set m old tx key value placed.stood placed.allowed in
+    let same : machine_of new true m.changes ≡ machine_at old m =
+    stays old new true m.changes (works_same old new 2 0 placed.works) (objects_kept m old new placed.stood placed.keeps) (pending_kept m old new placed.stood placed.keeps) in
+    subst (λ (lists : Transactions). SetDone (machine_at old m) tx key value (machine_of new true lists)) (sym placed.changes)
+    (sets_page new m.changes tx page key value (machine_at old m) placed.stood.rising may.room may.fits placed.holds_value same)
+
+-- ---- the marks
+
+pub page_is_dead : (m n : Mounted) (old new : Flash) (v : Values) (tx page : ℕ) (key value : List ℕ) → IsPlaced m n old new v tx page key value → mark_at v page ≡ Dead
+page_is_dead m n old new v tx page key value placed = placed.puts.marks page ∙ elim placed.free [
+  | inl dead ↦ dead
+  | inr erased ↦ fresh_is_dead old.blocks m.values old.image (shown_in old.image) m.changes page placed.stood.marked placed.stood.whole.values.pages placed.stood.valued erased
+]
+
+marks_put : (m n : Mounted) (old new : Flash) (v : Values) (tx page : ℕ) (key value : List ℕ) → IsPlaced m n old new v tx page key value → AreMarked v (shown_in old.image) m.changes
+marks_put m n old new v tx page key value placed = record {
+  shown = λ q. placed.stood.marked.shown q ∙ ap {B = ℕ} (λ (k : Mark). cond (is_visible k) 1 0) (sym (placed.puts.marks q));
+  pending = λ q. placed.stood.marked.pending q ∙ ap {B = ℕ} (λ (k : Mark). cond (is_pending k) 1 0) (sym (placed.puts.marks q));
+}
+
+named_alone : (page size q : ℕ) (key : List ℕ) → is_named q (At key page size ∷ []) ≡ true → page ≡ q
+named_alone page size q key is = by (eqb page q) refl is
+  where
+    by : (b : Bool) → eqb page q ≡ b → (b || false) ≡ true → page ≡ q
+    by true same h = eqb-true page q same
+    by false apart h = absurd cc
+
+pub marks_named : (m n : Mounted) (old new : Flash) (v : Values) (tx page : ℕ) (key value : List ℕ) → IsPlaced m n old new v tx page key value
+    → AreMarked n.values (shown_in old.image) (with_entry m.changes tx (At key page (length value)))
+marks_named m n old new v tx page key value placed =
+    let may = may_set m old tx key value placed.stood placed.allowed in
+    let dead = page_is_dead m n old new v tx page key value placed in
+    let marked = marks_put m n old new v tx page key value placed in
+    let were : WereDead v (At key page (length value) ∷ []) = λ q is. subst (λ (p : ℕ). mark_at v p ≡ Dead) (named_alone page (length value) q key is) dead in
+    sets v n.values (shown_in old.image) m.changes tx (At key page (length value)) placed.stood.rising may.open_is marked were
+    (λ q. placed.marks q ∙ remarks_are (change_of m.changes tx key) page (length value) q key (mark_at v) (older_lives v (shown_in old.image) m.changes tx page key marked dead))
+
+-- ---- the device
+
+pub stands_after : (m n : Mounted) (old new : Flash) (v : Values) (tx page : ℕ) (key value : List ℕ) → IsPlaced m n old new v tx page key value → Stands n new
+stands_after m n old new v tx page key value placed =
+    let blocks = works_blocks old new 2 0 placed.works in
+    let kept = image_kept m old new placed.stood placed.keeps in
+    let outside : (q : ℕ) → (IsValueBlock old.blocks (q / 32) → ⊥) → new.image q ≡ old.image q = λ q not_. placed.keeps.outside q (λ b. not_ (subst (λ (d : ℕ). IsValueBlock d (q / 32)) placed.stood.device b)) in
+    let region : IsValueBlock old.blocks (page / 32) = subst (λ (d : ℕ). IsValueBlock d (page / 32)) placed.stood.device placed.puts.value in
+    let valued : are_valued old.blocks new.image (with_entry m.changes tx (At key page (length value))) ≡ true =
+    valued_with old.blocks new.image m.changes tx (At key page (length value)) (valued_kept m old new placed.stood placed.keeps) (holds old.blocks new.image key value page region placed.holds_value) in
+    record {
+      powered = works_powered old new 2 0 placed.works ∙ placed.stood.powered;
+      least = subst (λ (b : ℕ). 256 ≤ b) (sym blocks) placed.stood.least;
+      most = subst (λ (b : ℕ). b ≤ 2048) (sym blocks) placed.stood.most;
+      whole = subst (λ (b : ℕ). IsWhole b new.image) (sym blocks) kept.keeps.whole;
+      index = subst (λ (i : Index). IsIndex i new.blocks new.image) (sym (ap (λ (x : Mounted). x.index) placed.rest)) (subst (λ (b : ℕ). IsIndex m.index b new.image) (sym blocks) (index_kept m.index old.blocks old.image new.image placed.stood.index outside));
+      device = placed.places.device ∙ placed.puts.device ∙ placed.stood.device ∙ sym blocks;
+      fills = placed.places.fills new.image placed.fills;
+      idle = placed.places.target.has ∙ placed.puts.target.has ∙ placed.stood.idle;
+      rising = subst (λ (lists : Transactions). are_rising lists ≡ true) (sym placed.changes) (rising_with m.changes tx (At key page (length value)) placed.stood.rising);
+      valued = subst (λ (lists : Transactions). are_valued new.blocks new.image lists ≡ true) (sym placed.changes) (subst (λ (b : ℕ). are_valued b new.image (with_entry m.changes tx (At key page (length value))) ≡ true) (sym blocks) valued);
+      marked = subst (λ (lists : Transactions). AreMarked n.values (shown_in new.image) lists) (sym placed.changes)
+          (subst (λ (shown : List Entry). AreMarked n.values shown (with_entry m.changes tx (At key page (length value)))) (sym kept.keeps.shown) (marks_named m n old new v tx page key value placed));
+      block = block_after_mark v n.values placed.places (block_after_put m.values v page placed.puts placed.room placed.stood.block);
+      keys = ap (λ (x : Mounted). x.keys) placed.rest ∙ placed.stood.keys ∙ ap (λ (shown : List Entry). length shown) (sym kept.keeps.shown);
+      pages = ap (λ (x : Mounted). x.pages) placed.rest ∙ placed.stood.pages ∙ ap (λ (shown : List Entry). length (pages_named shown)) (sym kept.keeps.shown);
+    }
