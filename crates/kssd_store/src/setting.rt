@@ -39,6 +39,7 @@ pub fn set<N: Nand>(
     ensures ages_refused { IfErr result (λ fault. takes_down fault ≡ false → mounted_age mounted.new ≤ mounted_age mounted.old) }
     ensures leaves { Leaves (N.flash nand.old) (mounted_age mounted.old + set_rise value.now) (N.flash nand.new) }
     ensures quiet { length value.now ≤ 128 → N.flash nand.new ≡ N.flash nand.old }
+    ensures quiet_refused { IfErr result (λ fault. takes_down fault ≡ false → N.flash nand.new ≡ N.flash nand.old) }
     ensures few { (N.flash nand.new).ops ≤ (N.flash nand.old).ops + most_set_cost (N.flash nand.old).blocks }
 {
     if let Some(fault) = refusal(&mounted.changes, tx, key, value) {
