@@ -1,1 +1,5 @@
 pub mod Taking
+pub mod Numbers
+pub mod Opening
+pub mod Settling
+pub mod Failing

@@ -1,5 +1,5 @@
 -- What a mount leaves where it fails, and where it programs and erases nothing.
-use Rattle.std.specs.Prelude.{◌≡◌, ◌⊎◌, ◌/◌, ℕ, true, false}
+use Rattle.std.specs.Prelude.{◌≡◌, ◌⊎◌, ◌≤◌, ◌+◌, ◌/◌, ℕ, Bool, true, false}
 use Rattle.kv_nand.specs.declared.fault.MountFault.{MountFault}
 use Rattle.kv_nand.specs.declared.fault.MountFault.TheVariants as mount
 use Rattle.kv_nand.specs.Flash.{Flash, Image, Erased}
@@ -10,6 +10,8 @@ use Rattle.kv_device.specs.Calls.{Falls}
 use Rattle.kssd_model.specs.OnlyReading.{OnlyReads}
 use Rattle.kssd_image.specs.Stages.{the_anchor}
 use Rattle.kssd_image.specs.Damages.{IsDamage}
+use Rattle.kssd_image.specs.Whole.{age_in}
+use Rattle.kssd_index.specs.Mapping.{IsKept}
 use Rattle.kssd_machine.specs.Machines.{resting}
 
 -- the device that was about to be up is down by this fault
@@ -31,3 +33,10 @@ IsClean image = (page : ℕ) → page / 32 ≡ (the_anchor image).log_block → 
 pub record IsOnlyRead (old new : Flash) : Type 0 where
   pub image : new.image ≡ old.image
   pub ops : new.ops ≡ old.ops
+
+-- the visible entries and the values are kept, and the age rises by at most 1; and where the log was clean, nothing was programmed or erased
+pub record IsSettled (clean : Bool) (old new : Flash) : Type 0 where
+  pub blocks : new.blocks ≡ old.blocks
+  pub kept : IsKept old.blocks old.image new.image
+  pub age : age_in new.image ≤ age_in old.image + 1
+  pub idle : clean ≡ true → IsOnlyRead old new

@@ -1,15 +1,22 @@
 // Mounting a device.
-ghost use Rattle.std.specs.Prelude.{◌≡◌, ◌≤◌, ◌+◌, ◌^◌, IfOk, IfErr};
+ghost use Rattle.std.specs.Prelude.{◌≡◌, ◌≤◌, ◌+◌, ◌^◌, true, IfOk, OnOk, IfErr};
+ghost use Rattle.kv_nand.specs.Working.{Works, Stops};
 ghost use Rattle.kv_device.specs.Machine.{restarted};
 ghost use Rattle.kssd_image.specs.Stages.{objects_in};
 ghost use Rattle.kssd_image.specs.Whole.{Sound, age_in};
 ghost use Rattle.kssd_index.specs.Costs.{most_place_cost};
-ghost use Rattle.kssd_machine.specs.Machines.{resting};
+ghost use Rattle.kssd_index.specs.Standing.{IsIndex, IsFit, is_clean, index_age};
+ghost use Rattle.kssd_index.specs.Standing.{AreParts as AreIndexParts};
+ghost use Rattle.kssd_machine.specs.Machines.{no_lists, resting};
+ghost use Rattle.kssd_recover.specs.Parts.{AreParts};
 ghost use Rattle.kssd_mounted.specs.Standing.{Stands, Leaves, mounted_age, machine_at};
-ghost use Rattle.kssd_mount.specs.Mounting.{FailsMounting, IsClean, IsOnlyRead};
+ghost use Rattle.kssd_mount.specs.Mounting.{FailsMounting, IsClean, IsOnlyRead, IsSettled};
 
+use kssd_index::{Index, IndexParts};
 use kssd_mounted::Mounted;
-use kv_nand::{MountFault, Nand};
+use kssd_recover::{Parts, recover};
+use kssd_tx::TxTable;
+use kv_nand::{FlashFault, MountFault, Nand};
 use std::alloc::Global;
 
 /// Mounts the device on a flash of 256 to 2,048 blocks whose image is sound. It is up then with the
@@ -33,7 +40,76 @@ pub fn mount<N: Nand>(alloc: Global, nand: &mut N) -> Result<Mounted, MountFault
     ensures clean { IsClean (N.flash nand.old).image → IsOnlyRead (N.flash nand.old) (N.flash nand.new) }
     ensures few { (N.flash nand.new).ops ≤ (N.flash nand.old).ops + most_place_cost (N.flash nand.old).blocks }
 {
-    let _nand = nand;
-    let _alloc = alloc;
-    Err(MountFault::Memory)
+    let parts = recover(alloc, nand)?;
+    let mounted = stand_up(alloc, nand, parts)?;
+    Ok(mounted)
+}
+
+// The device of these parts, up.
+fn stand_up<N: Nand>(alloc: Global, nand: &mut N, parts: Parts) -> Result<Mounted, FlashFault>
+    requires blocks { (256 ≤ (N.flash nand.old).blocks) × ((N.flash nand.old).blocks ≤ 2048) }
+    requires powered { (N.flash nand.old).powered ≡ true }
+    requires parts { AreParts (N.flash nand.old).blocks (N.flash nand.old).image parts }
+    ensures stands { IfOk result (λ mounted. Stands mounted (N.flash nand.new)) }
+    ensures none { IfOk result (λ mounted. mounted.changes ≡ no_lists) }
+    ensures age { IfOk result (λ mounted. mounted_age mounted ≤ age_in (N.flash nand.old).image + 1) }
+    ensures settled { IsSettled parts.clean (N.flash nand.old) (N.flash nand.new) }
+    ensures works { OnOk result (Works (N.flash nand.old) (N.flash nand.new) (most_place_cost (N.flash nand.old).blocks) (2 ^ 64)) }
+    ensures stops { IfErr result (λ fault. Stops (N.flash nand.old) fault (N.flash nand.new) (most_place_cost (N.flash nand.old).blocks) (2 ^ 64)) }
+{
+    let changes = TxTable::new(alloc)?;
+    let Parts {
+        layout,
+        anchor_page,
+        anchor,
+        levels,
+        log,
+        clean,
+        last_block,
+        next_seq,
+        values,
+        keys,
+        pages,
+    } = parts;
+    let index = index_of(
+        alloc,
+        nand,
+        IndexParts {
+            layout,
+            page: anchor_page,
+            anchor,
+            levels,
+            log,
+            clean,
+            last_block,
+            next_seq,
+        },
+    )?;
+    Ok(Mounted {
+        index,
+        values,
+        changes,
+        keys,
+        pages,
+    })
+}
+
+// The index of these parts, which is settled where the log isn't clean.
+fn index_of<N: Nand>(alloc: Global, nand: &mut N, parts: IndexParts) -> Result<Index, FlashFault>
+    requires parts { AreIndexParts parts (N.flash nand.old).blocks (N.flash nand.old).image }
+    requires fit { IsFit parts }
+    requires number { age_in (N.flash nand.old).image + 2 ^ 20 ≤ 2 ^ 63 }
+    ensures stands { IfOk result (λ index. IsIndex index (N.flash nand.new).blocks (N.flash nand.new).image) }
+    ensures age { IfOk result (λ index. index_age index ≤ age_in (N.flash nand.old).image + 1) }
+    ensures settled { IsSettled (is_clean parts) (N.flash nand.old) (N.flash nand.new) }
+    ensures works { OnOk result (Works (N.flash nand.old) (N.flash nand.new) (most_place_cost (N.flash nand.old).blocks) (2 ^ 64)) }
+    ensures stops { IfErr result (λ fault. Stops (N.flash nand.old) fault (N.flash nand.new) (most_place_cost (N.flash nand.old).blocks) (2 ^ 64)) }
+{
+    if parts.clean {
+        let index = Index::open(alloc, parts)?;
+        Ok(index)
+    } else {
+        let index = Index::settle(alloc, nand, parts)?;
+        Ok(index)
+    }
 }

@@ -1,0 +1,23 @@
+use Rattle.std.proofs.Common.{refl, arith}
+use Rattle.kssd_index.proofs.Anchored.{kept_still}
+use Rattle.kssd_mount.proofs.mounting.index_of.Goals as goal
+
+pub returns-in_err-index-clause-settled : goal.returns-in_err-index-clause-settled
+returns-in_err-index-clause-settled g c =
+    let old = g.N.Nand.flash c.args.nand.now in
+    record {
+      blocks = refl;
+      kept = kept_still c.args.parts.page c.args.parts.anchor old.blocks old.image c.requires.parts.anchored;
+      age = omega arith;
+      idle = λ is. record { image = refl; ops = refl };
+    }
+
+pub returns-in_ok-index-clause-settled : goal.returns-in_ok-index-clause-settled
+returns-in_ok-index-clause-settled g c =
+    let old = g.N.Nand.flash c.args.nand.now in
+    record {
+      blocks = refl;
+      kept = kept_still c.args.parts.page c.args.parts.anchor old.blocks old.image c.requires.parts.anchored;
+      age = omega arith;
+      idle = λ is. record { image = refl; ops = refl };
+    }
