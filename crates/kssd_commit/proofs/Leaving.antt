@@ -1,15 +1,21 @@
 -- What an end leaves where it begins no operation.
-use Rattle.std.proofs.Common.{◌≡◌, ℕ, ◌≤◌, refl, arith, inl, true, None}
-use Rattle.kv_nand.specs.Flash.{Flash}
-use Rattle.kv_device.specs.declared.fault.DeviceFault.TheVariants as faults
-use Rattle.kv_device.specs.Calls.{EndFault}
-use Rattle.kssd_tx.specs.Lists.{Transactions}
-use Rattle.kssd_tx.specs.Refusals.{tx_refusal}
+use Rattle.std.proofs.Common.{◌≡◌, ℕ, ◌≤◌, true, List, [], ◌∷◌, length, Option, Some, None, is_some, unwrap_or, refl, sym, ap, subst, arith}
+use Rattle.kv_nand.specs.Flash.{Flash, IsSound}
+use Rattle.kv_device.specs.Calls.{EndDone}
+use Rattle.kssd_entry.specs.declared.entry.Entry.{Entry}
+use Rattle.kssd_image.specs.Stages.{shown_in}
+use Rattle.kssd_tx.specs.Lists.{Transactions, list_of, changes_of, with_list}
+use Rattle.kssd_values.specs.declared.mark.Mark.TheVariants.{Dead}
+use Rattle.kssd_values.specs.Blocks.{mark_at}
 use Rattle.kssd_index.proofs.Anchored.{aged_still}
-use Rattle.kssd_machine.specs.Machines.{machine_of, resting}
-use Rattle.kssd_machine.proofs.Transacting.{ending_fallen}
+use Rattle.kssd_machine.specs.Machines.{machine_of}
+use Rattle.kssd_machine.specs.Marked.{remarked}
+use Rattle.kssd_machine.proofs.Finishing.{idle}
+use Rattle.kssd_machine.proofs.Tagging.{aborts}
+use Rattle.kssd_machine.proofs.Transacting.{rising_closed}
+use Rattle.kssd_machine.proofs.Valuing.{valued_closed}
 use Rattle.kssd_mounted.specs.declared.mounted.Mounted.{Mounted}
-use Rattle.kssd_mounted.specs.Standing.{Stands, Leaves, mounted_age}
+use Rattle.kssd_mounted.specs.Standing.{Stands, Leaves, mounted_age, machine_at}
 
 pub left_still : (m : Mounted) (flash : Flash) (age : ℕ) → Stands m flash → mounted_age m ≤ age → Leaves flash age flash
 left_still m flash age stands high = record {
@@ -18,5 +24,40 @@ left_still m flash age stands high = record {
   age_is = omega (arith, aged_still m.index flash.blocks flash.image stands.index, high);
 }
 
-pub out_at_once : (flash : Flash) (lists : Transactions) (tx : ℕ) → tx_refusal lists tx ≡ None → EndFault (machine_of flash true lists) tx faults.Memory (resting flash)
-out_at_once flash lists tx open_ = ending_fallen flash lists tx faults.Memory (resting flash) open_ (inl refl)
+-- ---- without changes
+
+-- an open transaction that has changed nothing
+pub nothing_in : (lists : Transactions) (tx : ℕ) → is_some (list_of lists tx) ≡ true → length (changes_of lists tx) ≡ 0 → list_of lists tx ≡ Some []
+nothing_in lists tx open_ none = by (list_of lists tx) open_ none
+  where
+    empty : (es : List Entry) → length es ≡ 0 → es ≡ []
+    empty [] h = refl
+    empty (e ∷ es) h = absurd (omega arith)
+
+    by : (o : Option (List Entry)) → is_some o ≡ true → length (unwrap_or o []) ≡ 0 → o ≡ Some []
+    by None h n = absurd cc
+    by (Some es) h n = ap Some (empty es n)
+
+module _ (m : Mounted) (flash : Flash) (tx : ℕ) (stands : Stands m flash) (lists : Transactions) (closed : lists ≡ with_list m.changes tx None) (nothing : list_of m.changes tx ≡ Some []) where
+  pub idle_done : IsSound flash → EndDone (machine_at flash m) tx (machine_of flash true lists)
+  idle_done sound = subst (λ (l : Transactions). EndDone (machine_at flash m) tx (machine_of flash true l)) (sym closed) (idle flash m.changes tx sound stands.whole nothing)
+
+  pub idle_stands : Stands (record m { changes = lists }) flash
+  idle_stands =
+      let none : changes_of m.changes tx ≡ [] = ap (λ o. unwrap_or o []) nothing in
+      subst (λ (l : Transactions). Stands (record m { changes = l }) flash) (sym closed) (record {
+        powered = stands.powered;
+        least = stands.least;
+        most = stands.most;
+        whole = stands.whole;
+        index = stands.index;
+        device = stands.device;
+        fills = stands.fills;
+        idle = stands.idle;
+        rising = rising_closed m.changes tx stands.rising;
+        valued = valued_closed flash.blocks flash.image m.changes tx stands.valued;
+        marked = aborts m.values m.values (shown_in flash.image) m.changes tx stands.marked (λ page. sym (ap (λ (es : List Entry). remarked es Dead (mark_at m.values) page) none));
+        block = stands.block;
+        keys = stands.keys;
+        pages = stands.pages;
+      })

@@ -1,1 +1,9 @@
 mod Leaving
+mod Grouped
+mod Replaced
+mod Judged
+mod Remarked
+mod Roomy
+mod Committed
+mod Restanding
+mod Readings

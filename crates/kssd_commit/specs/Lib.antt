@@ -1,1 +1,3 @@
 pub mod Ending
+pub mod Marking
+pub mod Judging

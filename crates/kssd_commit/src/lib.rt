@@ -1,6 +1,13 @@
 //! The end of a transaction: its changes become visible, all at once.
 #![tactic(auto)]
 
+mod adding;
+mod committing;
 mod ending;
+mod fault;
+mod judging;
+mod marking;
+mod replacing;
+mod sizes;
 
 pub use ending::end;

@@ -1,0 +1,29 @@
+use Rattle.std.proofs.Common.{arith, rules}
+use Rattle.kssd_commit.proofs.Readings.{none_leaves_up, rests, left_reading, done_before, fault_before, leaves_before, full_before}
+use Rattle.kssd_commit.proofs.Leaving.{left_still}
+use Rattle.kssd_commit.proofs.ending.end_changes.Goals as goal
+
+pub returns-in-Err-clause-leaves : goal.returns-in-Err-clause-leaves
+returns-in-Err-clause-leaves g c =
+    left_reading c.args.mounted.now (g.N.Nand.flash c.args.nand.now) (g.N.Nand.flash c.judge.new.nand) c.in-Err.fault _ c.requires.stands (omega arith) c.in-Err.ensures.err
+
+pub returns-then-not-has_room-clause-err : goal.returns-then-not-has_room-clause-err
+returns-then-not-has_room-clause-err g c =
+    full_before c.args.mounted.now (g.N.Nand.flash c.args.nand.now) (g.N.Nand.flash c.judge.new.nand) c.in-Ok.ensures.reads c.args.tx.0 c.in-Ok.judged c.blocks-2.result c.requires.opened c.in-Ok.ensures.judged c.blocks-2.ensures (search rules)
+
+pub returns-then-not-has_room-clause-leaves : goal.returns-then-not-has_room-clause-leaves
+returns-then-not-has_room-clause-leaves g c =
+    leaves_before c.args.mounted.now (g.N.Nand.flash c.args.nand.now) (g.N.Nand.flash c.judge.new.nand) c.in-Ok.ensures.reads (g.N.Nand.flash c.judge.new.nand) _
+    (left_still c.args.mounted.now (g.N.Nand.flash c.judge.new.nand) _ c.in-Ok.ensures.stands (omega arith))
+
+pub returns-in-Ok-commit-clause-ok : goal.returns-in-Ok-commit-clause-ok
+returns-in-Ok-commit-clause-ok g c =
+    done_before c.args.mounted.now (g.N.Nand.flash c.args.nand.now) (g.N.Nand.flash c.judge.new.nand) c.in-Ok.ensures.reads c.args.tx.0 _ c.in-Ok-commit.ensures.ok
+
+pub returns-in-Err-commit-clause-err : goal.returns-in-Err-commit-clause-err
+returns-in-Err-commit-clause-err g c =
+    rests c.args.mounted.now c.commit.new.mounted (g.N.Nand.flash c.args.nand.now) (g.N.Nand.flash c.commit.new.nand) c.args.tx.0 c.device_fault-in-Err-commit.result c.in-Err-commit.fault c.device_fault-in-Err-commit.ensures
+    (fault_before c.args.mounted.now (g.N.Nand.flash c.args.nand.now) (g.N.Nand.flash c.judge.new.nand) c.in-Ok.ensures.reads c.args.tx.0 _ _ c.in-Err-commit.ensures.err)
+
+pub returns-in-Err-commit-clause-refused : goal.returns-in-Err-commit-clause-refused
+returns-in-Err-commit-clause-refused g c = none_leaves_up c.device_fault-in-Err-commit.result c.in-Err-commit.fault c.device_fault-in-Err-commit.ensures
