@@ -1,3 +1,4 @@
 pub mod Standing
 pub mod Marking
 pub mod Beside
+pub mod Keeping

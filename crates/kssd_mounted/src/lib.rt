@@ -5,6 +5,7 @@
 
 mod beside;
 mod fault;
+mod keeping;
 mod marking;
 mod mounted;
 mod transacting;
@@ -12,5 +13,6 @@ mod viewing;
 
 pub use beside::indexes_stay_beside_values;
 pub use fault::{device_fault, tx_fault};
-pub use marking::mark_entries;
+pub use keeping::devices_stay;
+pub use marking::{mark_entries, page_of};
 pub use mounted::Mounted;

@@ -1,9 +1,9 @@
 // The marks of the pages that entries name.
-ghost use Rattle.std.specs.Prelude.{◌≡◌, ℕ};
+ghost use Rattle.std.specs.Prelude.{◌≡◌, ℕ, option_copied};
 ghost use Rattle.kssd_values.specs.Blocks.{mark_at};
 ghost use Rattle.kssd_values.specs.Changes.{SamePlaces};
 ghost use Rattle.kssd_machine.specs.Marked.{remarked};
-ghost use Rattle.kssd_mounted.specs.Marking.{MayMark};
+ghost use Rattle.kssd_mounted.specs.Marking.{MayMark, IsPageOf};
 
 use kssd_entry::Entry;
 use kssd_values::{Mark, Values};
@@ -19,5 +19,15 @@ pub fn mark_entries(values: &mut Values, entries: &[Entry], mark: Mark)
         if let Entry::At { page, .. } = entry {
             values.mark(*page, mark);
         }
+    }
+}
+
+/// The page that an entry names, where there is one and it names a page.
+pub fn page_of(entry: Option<&Entry>) -> Option<u32>
+    ensures { IsPageOf (option_copied entry.entry) result }
+{
+    match entry {
+        Some(Entry::At { page, .. }) => Some(*page),
+        _ => None,
     }
 }

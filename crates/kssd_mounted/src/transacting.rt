@@ -1,15 +1,14 @@
 // Calls that change the lists of open transactions, and do nothing to the flash.
-ghost use Rattle.std.specs.Prelude.{◌≡◌, ◌≤◌, ℕ, false, None, length, option_copied, OnOk, OnErr, IfOk, IfErr};
+ghost use Rattle.std.specs.Prelude.{◌≡◌, ◌≤◌, ℕ, false, None, length, OnOk, OnErr, IfOk, IfErr};
 ghost use Rattle.kv_device.specs.Calls.{BeginDone, BeginFault, SetDone, SetFault, DeleteDone, DeleteFault, AbortDone, AbortFault};
 ghost use Rattle.kssd_entry.specs.Spelling.{key_of};
 ghost use Rattle.kssd_tx.specs.Refusals.{set_refusal};
 ghost use Rattle.kssd_machine.specs.Names.{names};
 ghost use Rattle.kssd_machine.specs.Calling.{with_entry};
-ghost use Rattle.kssd_mounted.specs.Marking.{IsPageOf};
 
 use crate::Mounted;
 use crate::fault::tx_fault;
-use crate::marking::mark_entries;
+use crate::marking::{mark_entries, page_of};
 use kssd_entry::{Entry, InlineValue};
 use kssd_tx::TxId;
 use kssd_values::Mark;
@@ -129,15 +128,5 @@ impl Mounted {
             }
             Err(_) => Err(Memory),
         }
-    }
-}
-
-// The page that an entry names, where there is one and it names a page.
-fn page_of(entry: Option<&Entry>) -> Option<u32>
-    ensures { IsPageOf (option_copied entry.entry) result }
-{
-    match entry {
-        Some(Entry::At { page, .. }) => Some(*page),
-        _ => None,
     }
 }
