@@ -3,26 +3,19 @@ use Rattle.std.proofs.Common.{◌≡◌, ℕ, ◌≤◌, true, List, [], ◌∷�
 use Rattle.kv_nand.specs.Flash.{Flash, IsSound}
 use Rattle.kv_device.specs.Calls.{EndDone}
 use Rattle.kssd_entry.specs.declared.entry.Entry.{Entry}
-use Rattle.kssd_image.specs.Stages.{shown_in}
 use Rattle.kssd_tx.specs.Lists.{Transactions, list_of, changes_of, with_list}
-use Rattle.kssd_values.specs.declared.mark.Mark.TheVariants.{Dead}
-use Rattle.kssd_values.specs.Blocks.{mark_at}
-use Rattle.kssd_index.proofs.Anchored.{aged_still}
 use Rattle.kssd_machine.specs.Machines.{machine_of}
-use Rattle.kssd_machine.specs.Marked.{remarked}
 use Rattle.kssd_machine.proofs.Finishing.{idle}
-use Rattle.kssd_machine.proofs.Tagging.{aborts}
-use Rattle.kssd_machine.proofs.Transacting.{rising_closed}
-use Rattle.kssd_machine.proofs.Valuing.{valued_closed}
 use Rattle.kssd_mounted.specs.declared.mounted.Mounted.{Mounted}
 use Rattle.kssd_mounted.specs.Standing.{Stands, Leaves, mounted_age, machine_at}
+use Rattle.kssd_mounted.proofs.Staying.{leaves_image}
+use Rattle.kssd_mounted.proofs.Changing.{same_places, abort_stands}
+
+pub left_within : (old new : Flash) (age most : ℕ) → Leaves old age new → age ≤ most → Leaves old most new
+left_within old new age most left high = record { blocks = left.blocks; whole = left.whole; age_is = omega (arith, left.age_is) }
 
 pub left_still : (m : Mounted) (flash : Flash) (age : ℕ) → Stands m flash → mounted_age m ≤ age → Leaves flash age flash
-left_still m flash age stands high = record {
-  blocks = refl;
-  whole = stands.whole;
-  age_is = omega (arith, aged_still m.index flash.blocks flash.image stands.index, high);
-}
+left_still m flash age stands high = left_within flash flash (mounted_age m) age (leaves_image m flash flash refl refl stands) high
 
 -- ---- without changes
 
@@ -43,21 +36,4 @@ module _ (m : Mounted) (flash : Flash) (tx : ℕ) (stands : Stands m flash) (lis
   idle_done sound = subst (λ (l : Transactions). EndDone (machine_at flash m) tx (machine_of flash true l)) (sym closed) (idle flash m.changes tx sound stands.whole nothing)
 
   pub idle_stands : Stands (record m { changes = lists }) flash
-  idle_stands =
-      let none : changes_of m.changes tx ≡ [] = ap (λ o. unwrap_or o []) nothing in
-      subst (λ (l : Transactions). Stands (record m { changes = l }) flash) (sym closed) (record {
-        powered = stands.powered;
-        least = stands.least;
-        most = stands.most;
-        whole = stands.whole;
-        index = stands.index;
-        device = stands.device;
-        fills = stands.fills;
-        idle = stands.idle;
-        rising = rising_closed m.changes tx stands.rising;
-        valued = valued_closed flash.blocks flash.image m.changes tx stands.valued;
-        marked = aborts m.values m.values (shown_in flash.image) m.changes tx stands.marked (λ page. sym (ap (λ (es : List Entry). remarked es Dead (mark_at m.values) page) none));
-        block = stands.block;
-        keys = stands.keys;
-        pages = stands.pages;
-      })
+  idle_stands = abort_stands m flash tx [] m.values lists stands (sym (ap (λ o. unwrap_or o []) nothing)) (λ page. refl) (same_places m.values) closed

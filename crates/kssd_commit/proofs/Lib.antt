@@ -2,7 +2,6 @@ mod Leaving
 mod Grouped
 mod Replaced
 mod Judged
-mod Remarked
 mod Roomy
 mod Committed
 mod Restanding

@@ -1,11 +1,12 @@
 -- A device stands after an end.
-use Rattle.std.proofs.Common.{◌≡◌, ◌≢◌, ◌∙◌, ℕ, ◌/◌, ◌≤◌, Bool, true, false, cond, ◌||◌, List, [], ◌∷◌, ◌++◌, length, Option, Some, None, unwrap_or, refl, sym, ap, subst, arith}
+use Rattle.std.proofs.Common.{◌≡◌, ◌≢◌, ◌∙◌, ℕ, ◌/◌, ◌≤◌, true, false, cond, List, [], ◌∷◌, ◌++◌, length, Option, Some, None, unwrap_or, refl, sym, ap, subst, arith}
 use Rattle.std.specs.List.{list_all}
-use Rattle.std.proofs.lemmas.Bool.{and_parts, and_from, eqb-true}
+use Rattle.std.proofs.lemmas.Bool.{and_parts, and_from}
+use Rattle.std.proofs.lemmas.List.{length-set}
 use Rattle.kv_nand.specs.Flash.{Flash, Image, IsSound}
 use Rattle.kv_nand.specs.Working.{Works}
+use Rattle.kssd_layout.specs.Numbers.{first_value_block_in}
 use Rattle.kssd_entry.specs.declared.entry.Entry.{Entry}
-use Rattle.kssd_entry.specs.declared.entry.Entry.TheVariants.{Put, At, Gone}
 use Rattle.kssd_entry.specs.Spelling.{key_of}
 use Rattle.kssd_model.specs.Rising.{find_entry}
 use Rattle.kssd_image.specs.Stages.{shown_in}
@@ -26,10 +27,10 @@ use Rattle.kssd_index.specs.declared.index.Index.{Index}
 use Rattle.kssd_index.specs.Standing.{IsIndex}
 use Rattle.kssd_index.specs.Mapping.{SameValues, IsBeforeOrAfter}
 use Rattle.kssd_tx.specs.Lists.{Transactions, changes_of, with_list}
-use Rattle.kssd_machine.specs.Names.{names, times_pending, are_valued}
+use Rattle.kssd_machine.specs.Names.{times_pending, are_valued}
 use Rattle.kssd_machine.specs.Sizes.{listed, replaced}
 use Rattle.kssd_machine.specs.Marked.{is_pending, is_named, AreMarked, IsRemarked}
-use Rattle.kssd_machine.proofs.Seeing.{found_passes, list_valued, page_read}
+use Rattle.kssd_machine.proofs.Seeing.{found_passes, list_valued}
 use Rattle.kssd_machine.proofs.Moving.{is_free}
 use Rattle.kssd_machine.proofs.Tagging.{named_some, pending_closed, ends}
 use Rattle.kssd_machine.proofs.Finishing.{all_valued}
@@ -39,28 +40,13 @@ use Rattle.kssd_machine.proofs.Valuing.{valued_closed}
 use Rattle.kssd_machine.proofs.Remaining.{block_after_mark}
 use Rattle.kssd_mounted.specs.declared.mounted.Mounted.{Mounted}
 use Rattle.kssd_mounted.specs.Standing.{Stands}
+use Rattle.kssd_mounted.proofs.Changing.{named_region}
 use Rattle.kssd_commit.specs.declared.judging.Judged.{Judged}
 use Rattle.kssd_commit.specs.Judging.{IsJudged}
-use Rattle.kssd_commit.specs.Marking.{MayMark}
+use Rattle.kssd_mounted.specs.Marking.{MayMark}
 use Rattle.kssd_commit.proofs.Committed.{whole_then}
 
 -- ---- pages of entries
-
-entry_region : (blocks : ℕ) (image : Image) (page : ℕ) (e : Entry) → names page e ≡ true → has_its_value blocks image e ≡ true → IsValueBlock blocks (page / 32)
-entry_region blocks image page (Put key value) is valued = absurd cc
-entry_region blocks image page (Gone key) is valued = absurd cc
-entry_region blocks image page (At key at size) is valued = subst (λ p. IsValueBlock blocks (p / 32)) (eqb-true at page is) (page_read blocks image key at size valued).region
-
--- a page that entries name lies in a block of values
-named_region : (blocks : ℕ) (image : Image) (page : ℕ) (es : List Entry) → list_all (has_its_value blocks image) es ≡ true → is_named page es ≡ true → IsValueBlock blocks (page / 32)
-named_region blocks image page [] valued is = absurd cc
-named_region blocks image page (e ∷ es) valued is =
-    let both = and_parts _ _ valued in
-    by (names page e) refl is (named_region blocks image page es both.1)
-  where
-    by : (b : Bool) → names page e ≡ b → (b || is_named page es) ≡ true → (is_named page es ≡ true → IsValueBlock blocks (page / 32)) → IsValueBlock blocks (page / 32)
-    by true h is rest = entry_region blocks image page e h (and_parts _ _ valued).0
-    by false h is rest = rest is
 
 -- entries that are replaced have their values
 replaced_valued : (blocks : ℕ) (image : Image) (older entries : List Entry) → list_all (has_its_value blocks image) older ≡ true → list_all (has_its_value blocks image) (replaced older entries) ≡ true
@@ -98,8 +84,8 @@ fills_still v old new same fills = record {
   target = in_same v.target old new fills.target (λ f is q at. same q (low f q at (v.sound.target_is f is).value));
 }
   where
-    low : (f : Filling) (q : ℕ) → q / 32 ≡ f.block → IsValueBlock (device_of v) f.block → Rattle.kssd_layout.specs.Numbers.first_value_block_in (device_of v) ≤ q / 32
-    low f q at value = subst (λ b. Rattle.kssd_layout.specs.Numbers.first_value_block_in (device_of v) ≤ b) (sym at) value.first
+    low : (f : Filling) (q : ℕ) → q / 32 ≡ f.block → IsValueBlock (device_of v) f.block → first_value_block_in (device_of v) ≤ q / 32
+    low f q at value = subst (λ b. first_value_block_in (device_of v) ≤ b) (sym at) value.first
 
 -- ---- after an end
 
@@ -137,6 +123,7 @@ module _ (m : Mounted) (old : Flash) (tx : ℕ) (judged : Judged) (stands : Stan
         device = places.device ∙ stands.device ∙ sym blocks;
         fills = places.fills new.image (fills_still m.values old.image new.image (subst (λ n. SameValues n old.image new.image) (sym stands.device) either.values) stands.fills);
         idle = places.target.has ∙ stands.idle;
+        four = length-set m.changes tx None ∙ stands.four;
         rising = rising_closed m.changes tx stands.rising;
         valued = subst (λ n. are_valued n new.image (with_list m.changes tx None) ≡ true) (sym blocks) (lists_valued old.blocks old.image new.image (with_list m.changes tx None) either.values (valued_closed old.blocks old.image m.changes tx stands.valued));
         marked = subst (λ (es : List Entry). AreMarked values es (with_list m.changes tx None)) (sym shown_) (ends m.values values (shown_in old.image) m.changes tx (shown_in_rises old.image) stands.rising stands.marked remarked_);

@@ -11,13 +11,12 @@ ghost use Rattle.kssd_tx.specs.Refusals.{tx_refusal};
 ghost use Rattle.kssd_mounted.specs.Standing.{Stands, Leaves, mounted_age, machine_at};
 ghost use Rattle.kssd_commit.specs.Ending.{IsEndWithin};
 ghost use Rattle.kssd_commit.specs.Judging.{IsJudged, HasRoomFor};
-ghost use Rattle.kssd_commit.specs.Marking.{MayMark};
+ghost use Rattle.kssd_mounted.specs.Marking.{MayMark};
 
 use crate::adding::add_group;
 use crate::judging::Judged;
-use crate::marking::mark_entries;
 use kssd_entry::Entries;
-use kssd_mounted::Mounted;
+use kssd_mounted::{Mounted, mark_entries};
 use kssd_tx::{TxId, TxTable};
 use kssd_values::{Mark, Values};
 use kv_base::Memory;

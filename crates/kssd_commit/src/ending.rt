@@ -7,10 +7,9 @@ ghost use Rattle.kssd_mounted.specs.Standing.{Stands, Leaves, mounted_age, machi
 ghost use Rattle.kssd_commit.specs.Ending.{IsUntouched, IsEndWithin};
 
 use crate::committing::commit;
-use crate::fault::device_fault;
 use crate::judging::judge;
 use crate::sizes::has_room;
-use kssd_mounted::Mounted;
+use kssd_mounted::{Mounted, device_fault};
 use kssd_tx::{TxId, TxTable};
 use kv_device::DeviceFault;
 use kv_nand::Nand;

@@ -4,9 +4,7 @@
 mod adding;
 mod committing;
 mod ending;
-mod fault;
 mod judging;
-mod marking;
 mod replacing;
 mod sizes;
 

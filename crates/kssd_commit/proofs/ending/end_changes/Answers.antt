@@ -1,5 +1,10 @@
 use Rattle.std.proofs.Common.{arith, rules}
-use Rattle.kssd_commit.proofs.Readings.{none_leaves_up, rests, left_reading, done_before, fault_before, leaves_before, full_before}
+use Rattle.kv_device.specs.Calls.{EndFault}
+use Rattle.kssd_machine.specs.Faults.{device_fault}
+use Rattle.kssd_mounted.specs.Standing.{machine_at}
+use Rattle.kssd_mounted.proofs.Staying.{device_fault_down, down_is_up}
+use Rattle.kssd_mounted.proofs.Changing.{fallen}
+use Rattle.kssd_commit.proofs.Readings.{left_reading, done_before, fault_before, leaves_before, full_before}
 use Rattle.kssd_commit.proofs.Leaving.{left_still}
 use Rattle.kssd_commit.proofs.ending.end_changes.Goals as goal
 
@@ -22,8 +27,9 @@ returns-in-Ok-commit-clause-ok g c =
 
 pub returns-in-Err-commit-clause-err : goal.returns-in-Err-commit-clause-err
 returns-in-Err-commit-clause-err g c =
-    rests c.args.mounted.now c.commit.new.mounted (g.N.Nand.flash c.args.nand.now) (g.N.Nand.flash c.commit.new.nand) c.args.tx.0 c.device_fault-in-Err-commit.result c.in-Err-commit.fault c.device_fault-in-Err-commit.ensures
+    let ended = EndFault (machine_at (g.N.Nand.flash c.args.nand.now) c.args.mounted.now) c.args.tx.0 in
+    fallen ended c.commit.new.mounted (g.N.Nand.flash c.commit.new.nand) c.device_fault-in-Err-commit.result (device_fault c.in-Err-commit.fault) c.device_fault-in-Err-commit.ensures (device_fault_down c.in-Err-commit.fault)
     (fault_before c.args.mounted.now (g.N.Nand.flash c.args.nand.now) (g.N.Nand.flash c.judge.new.nand) c.in-Ok.ensures.reads c.args.tx.0 _ _ c.in-Err-commit.ensures.err)
 
 pub returns-in-Err-commit-clause-refused : goal.returns-in-Err-commit-clause-refused
-returns-in-Err-commit-clause-refused g c = none_leaves_up c.device_fault-in-Err-commit.result c.in-Err-commit.fault c.device_fault-in-Err-commit.ensures
+returns-in-Err-commit-clause-refused g c = down_is_up c.in-Err-commit.fault c.device_fault-in-Err-commit.result c.device_fault-in-Err-commit.ensures
