@@ -1,10 +1,11 @@
 -- There is room for a group that is judged to have it.
-use Rattle.std.proofs.Common.{◌≡◌, ℕ, ◌≤◌, true, false, cond, Option, Some, None, refl, ap, subst, arith}
+use Rattle.std.proofs.Common.{◌≡◌, ℕ, ◌≤◌, true, false, cond, List, Option, Some, None, refl, sym, ap, subst, arith}
 use Rattle.std.specs.Prelude.{position}
 use Rattle.std.proofs.lemmas.Bool.{and_from, le-leb, lt-ltb}
 use Rattle.kv_nand.specs.Flash.{Flash, IsSound}
 use Rattle.kv_device.specs.Machine.{view}
 use Rattle.kv_device.specs.Calls.{has_room}
+use Rattle.kssd_entry.specs.declared.entry.Entry.{Entry}
 use Rattle.kssd_image.specs.Stages.{shown_in}
 use Rattle.kssd_image.specs.Whole.{is_value_block}
 use Rattle.kssd_frames.specs.Logging.{IsRoomAfter}
@@ -55,3 +56,6 @@ module _ (m : Mounted) (old : Flash) (tx : ℕ) (judged : Judged) (stands : Stan
       group_room old m.changes tx one.0 sound stands.whole stands.least stands.valued is.fits has_room_after
       (subst (λ n. is_value_block n one.0 ≡ true) device (and_from _ _ (le-leb _ _ first) (lt-ltb _ _ last)))
       (free_unnamed m.values (shown_in old.image) m.changes tx one.0 (shown_in_rises old.image) stands.rising stands.marked one.1.free)
+
+  pub room_for_them : IsSound old → (entries : List Entry) → entries ≡ changes_of m.changes tx → IsRoomAfter old.blocks old.image entries
+  room_for_them sound entries same = subst (λ (es : List Entry). IsRoomAfter old.blocks old.image es) (sym same) (room_after sound)

@@ -1,7 +1,7 @@
 // The end of a transaction.
-ghost use Rattle.std.specs.Prelude.{◌≡◌, ◌≤◌, ◌+◌, ◌^◌, [], false, length, Some, None, OnOk, IfErr};
+ghost use Rattle.std.specs.Prelude.{◌≡◌, ◌≤◌, ◌+◌, ◌^◌, [], false, Some, None, OnOk, IfErr};
 ghost use Rattle.kv_device.specs.Calls.{EndDone, EndFault};
-ghost use Rattle.kssd_tx.specs.Lists.{list_of, changes_of, with_list};
+ghost use Rattle.kssd_tx.specs.Lists.{list_of, with_list};
 ghost use Rattle.kssd_tx.specs.Refusals.{tx_refusal};
 ghost use Rattle.kssd_mounted.specs.Standing.{Stands, Leaves, mounted_age, machine_at, machine_after, takes_down};
 ghost use Rattle.kssd_commit.specs.Ending.{IsUntouched, IsEndWithin};
@@ -44,40 +44,6 @@ pub fn end<N: Nand>(
         close(&mut mounted.changes, tx);
         return Ok(());
     }
-    end_changes(alloc, nand, mounted, tx)
-}
-
-// Closes an open transaction.
-fn close(changes: &mut TxTable, tx: TxId)
-    requires { tx_refusal changes.old tx.0 ≡ None }
-    ensures { changes.new ≡ with_list changes.old tx.0 None }
-{
-    match changes.abort(tx) {
-        Ok(()) => {}
-        Err(_) => unreachable!(),
-    }
-}
-
-// Ends an open transaction that has changes.
-fn end_changes<N: Nand>(
-    alloc: Global,
-    nand: &mut N,
-    mounted: &mut Mounted,
-    tx: TxId,
-) -> Result<(), DeviceFault>
-    requires stands { Stands mounted.old (N.flash nand.old) }
-    requires opened { tx_refusal mounted.old.changes tx.0 ≡ None }
-    requires some { 1 ≤ length (changes_of mounted.old.changes tx.0) }
-    requires number { mounted_age mounted.old + 2 ^ 21 ≤ 2 ^ 63 }
-    ensures ok { OnOk result (EndDone (machine_at (N.flash nand.old) mounted.old) tx.0 (machine_at (N.flash nand.new) mounted.new)) }
-    ensures err { IfErr result (λ fault. EndFault (machine_at (N.flash nand.old) mounted.old) tx.0 fault (machine_after fault (N.flash nand.new) mounted.new)) }
-    ensures stands { OnOk result (Stands mounted.new (N.flash nand.new)) }
-    ensures refused { IfErr result (λ fault. takes_down fault ≡ false → Stands mounted.new (N.flash nand.new)) }
-    ensures ages { mounted_age mounted.new ≤ mounted_age mounted.old + 2 ^ 10 }
-    ensures leaves { Leaves (N.flash nand.old) (mounted_age mounted.old + 2 ^ 10) (N.flash nand.new) }
-    ensures within { IsEndWithin (N.flash nand.old) (N.flash nand.new) }
-    ensures untouched { IfErr result (λ fault. takes_down fault ≡ false → IsUntouched (N.flash nand.old) (N.flash nand.new)) }
-{
     let judged = match judge(alloc, nand, mounted, tx) {
         Ok(judged) => judged,
         Err(fault) => return Err(device_fault(fault)),
@@ -91,5 +57,16 @@ fn end_changes<N: Nand>(
     match commit(alloc, nand, mounted, tx, judged) {
         Ok(()) => Ok(()),
         Err(fault) => Err(device_fault(fault)),
+    }
+}
+
+// Closes an open transaction.
+fn close(changes: &mut TxTable, tx: TxId)
+    requires { tx_refusal changes.old tx.0 ≡ None }
+    ensures { changes.new ≡ with_list changes.old tx.0 None }
+{
+    match changes.abort(tx) {
+        Ok(()) => {}
+        Err(_) => unreachable!(),
     }
 }

@@ -1,12 +1,10 @@
 use Rattle.std.proofs.lemmas.Result.{err_from_is_err_and}
-use Rattle.std.proofs.Common.{arith, subst, sym, List}
+use Rattle.std.proofs.Common.{arith, subst, sym}
 use Rattle.kv_nand.proofs.Chaining.{works_blocks, stops_blocks}
-use Rattle.kssd_frames.specs.Logging.{IsRoomAfter}
-use Rattle.kssd_entry.specs.declared.entry.Entry.{Entry}
 use Rattle.kssd_tx.specs.Lists.{Transactions}
 use Rattle.kssd_mounted.specs.Standing.{Stands}
 use Rattle.kssd_commit.proofs.Leaving.{left_still}
-use Rattle.kssd_commit.proofs.Roomy.{has_room_after, room_after}
+use Rattle.kssd_commit.proofs.Roomy.{has_room_after, room_after, room_for_them}
 use Rattle.kssd_commit.proofs.Committed.{leaves_then, stopped, done}
 use Rattle.kssd_commit.proofs.Restanding.{may_die, may_show, stands_then}
 use Rattle.kssd_commit.proofs.committing.commit.Goals as goal
@@ -16,9 +14,7 @@ returns-in_err-entries-clause-leaves g c = left_still c.args.mounted.now (g.N.Na
 
 pub add_group-requires-clause-room : goal.add_group-requires-clause-room
 add_group-requires-clause-room g c =
-    let old = g.N.Nand.flash c.args.nand.now in
-    let room = room_after c.args.mounted.now old c.args.tx.0 c.args.judged c.requires.stands c.requires.judged c.requires.room (g.met.N.Nand.sound c.args.nand.now) in
-    subst (λ (es : List Entry). IsRoomAfter old.blocks old.image es) (sym c.in_ok-entries.ensures.value) room
+    room_for_them c.args.mounted.now (g.N.Nand.flash c.args.nand.now) c.args.tx.0 c.args.judged c.requires.stands c.requires.judged c.requires.room (g.met.N.Nand.sound c.args.nand.now) c.in_ok-entries.entries c.in_ok-entries.ensures.value
 
 pub returns-in_err-add_group-clause-leaves : goal.returns-in_err-add_group-clause-leaves
 returns-in_err-add_group-clause-leaves g c =
