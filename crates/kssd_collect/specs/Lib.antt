@@ -1,3 +1,4 @@
 pub mod Costs
 pub mod Copied
 pub mod Moved
+pub mod Collecting

@@ -1,0 +1,44 @@
+-- A device whose block of values is being collected.
+use Rattle.std.specs.Prelude.{◌≡◌, ◌≤◌, ◌<◌, ◌/◌, ℕ, true, false, length}
+use Rattle.kv_nand.specs.Flash.{Flash}
+use Rattle.kssd_image.specs.Stages.{shown_in}
+use Rattle.kssd_image.specs.Whole.{pages_named, IsWhole}
+use Rattle.kssd_values.specs.Blocks.{device_of, is_live_at, target_next, IsClosed}
+use Rattle.kssd_values.specs.Pages.{Fills}
+use Rattle.kssd_index.specs.Standing.{IsIndex}
+use Rattle.kssd_reclaim.specs.declared.reclaim.Reclaim.{Reclaim}
+use Rattle.kssd_reclaim.specs.Reclaim.{block_of, AllCopied}
+use Rattle.kssd_machine.specs.Names.{are_rising, are_valued}
+use Rattle.kssd_machine.specs.Marked.{AreMarked, HasBlock}
+use Rattle.kssd_mounted.specs.declared.mounted.Mounted.{Mounted}
+use Rattle.kssd_collect.specs.Copied.{HasCopies}
+
+-- a device stands on a flash, though a block may be being copied into
+pub record IsBusy (m : Mounted) (flash : Flash) : Type 0 where
+  pub powered : flash.powered ≡ true
+  pub least : 256 ≤ flash.blocks
+  pub most : flash.blocks ≤ 2048
+  pub whole : IsWhole flash.blocks flash.image
+  pub index : IsIndex m.index flash.blocks flash.image
+  pub device : device_of m.values ≡ flash.blocks
+  pub fills : Fills m.values flash.image
+  pub four : length m.changes ≡ 4
+  pub rising : are_rising m.changes ≡ true
+  pub valued : are_valued flash.blocks flash.image m.changes ≡ true
+  pub marked : AreMarked m.values (shown_in flash.image) m.changes
+  pub block : HasBlock m.values
+  pub keys : m.keys ≡ length (shown_in flash.image)
+  pub pages : m.pages ≡ length (pages_named (shown_in flash.image))
+
+-- all pages of a block are copied, and none of the copies is named yet
+pub record IsCopied (r : Reclaim) (m : Mounted) (flash : Flash) : Type 0 where
+  pub busy : IsBusy m flash
+  pub copies : HasCopies r m.values flash.image
+  pub all : AllCopied r m.values
+
+-- the copies are named in the place of the block's pages, and none of these is named any more
+pub record IsEmptied (r : Reclaim) (m : Mounted) (flash : Flash) : Type 0 where
+  pub busy : IsBusy m flash
+  pub closed : IsClosed m.values (block_of r)
+  pub dead : (page : ℕ) → page / 32 ≡ block_of r → is_live_at m.values page ≡ false
+  pub room : target_next m.values < 32
