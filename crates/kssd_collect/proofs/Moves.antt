@@ -1,12 +1,12 @@
 -- Marks that go from pages to their copies, copy by copy.
-use Rattle.std.proofs.Common.{◌≡◌, ◌∙◌, ℕ, zero, suc, ◌+◌, ◌/◌, ◌%◌, ◌<◌, ◌≤◌, inl, inr, Bool, true, false, cond, ◌||◌, ◌&&◌, eqb, ltb, List, [], ◌∷◌, length, get_or, take, Option, Some, None, refl, sym, ap, subst, arith}
+use Rattle.std.proofs.Common.{◌≡◌, ◌∙◌, ℕ, zero, suc, ◌+◌, ◌/◌, ◌%◌, ◌<◌, ◌≤◌, inl, inr, Bool, true, false, cond, ◌||◌, ◌&&◌, eqb, ltb, List, [], ◌∷◌, length, get_or, take, map, Option, Some, None, option_map, refl, sym, ap, subst, arith}
 use Rattle.std.specs.Prelude.{filter}
 use Rattle.std.specs.List.{list_any}
 use Rattle.std.proofs.lemmas.Bool.{and_parts, eqb-true, eq-eqb, ne_eqb, cases_eq}
-use Rattle.std.proofs.lemmas.List.{get_or_default}
+use Rattle.std.proofs.lemmas.List.{get_or_default, length-map}
 use Rattle.kv_nand.specs.Flash.{Image}
 use Rattle.kssd_entry.specs.declared.entry.Entry.{Entry}
-use Rattle.kssd_tx.specs.Lists.{Transactions, all_repointed}
+use Rattle.kssd_tx.specs.Lists.{Transactions, repointed, all_repointed}
 use Rattle.kssd_values.specs.Marks.{is_live}
 use Rattle.kssd_values.specs.declared.mark.Mark.{Mark}
 use Rattle.kssd_values.specs.declared.mark.Mark.TheVariants.{Pending, Visible, Dead}
@@ -66,7 +66,7 @@ any_more p q (suc n) (x ∷ xs) c low is = by (q x) (any_more p q n xs c (omega 
 -- ---- the pages of copies
 
 -- the block copied into
-target_block : (v : Values) (page : ℕ) → is_target_page v page ≡ true → (state_at v (page / 32) ≡ Target) × IsValueBlock (device_of v) (page / 32)
+pub target_block : (v : Values) (page : ℕ) → is_target_page v page ≡ true → (state_at v (page / 32) ≡ Target) × IsValueBlock (device_of v) (page / 32)
 target_block v page is = by v.target refl is
   where
     by : (o : Option Filling) → v.target ≡ o → is_below_in o page ≡ true → (state_at v (page / 32) ≡ Target) × IsValueBlock (device_of v) (page / 32)
@@ -258,12 +258,13 @@ marked_all test mark r old v items n h same all page =
 -- what stays of the lists as changes name copies
 pub record AreFollowed (r : Reclaim) (old : Values) (before : Transactions) (v : Values) (now : Transactions) : Type 0 where
   pub marked : (visible : List Entry) → AreMarked old visible before → AreMarked v visible now
+  pub count : length now ≡ length before
   pub rising : are_rising before ≡ true → are_rising now ≡ true
   pub pending : (image : Image) → HoldTheSame r old image → pending_in image now ≡ pending_in image before
   pub valued : (image : Image) → HoldTheSame r old image → are_valued (device_of old) image before ≡ true → are_valued (device_of old) image now ≡ true
 
 pub none_followed : (r : Reclaim) (v : Values) (lists : Transactions) → AreFollowed r v lists v lists
-none_followed r v lists = record { marked = λ visible h. h; rising = λ h. h; pending = λ image h. refl; valued = λ image h is. is }
+none_followed r v lists = record { marked = λ visible h. h; count = refl; rising = λ h. h; pending = λ image h. refl; valued = λ image h is. is }
 
 pub followed_more : (r : Reclaim) (old v w : Values) (before now : Transactions) (n : ℕ) (c : CopyOf) → IsAt r old n c → IsMarked is_pending Pending r old n v → AreCopiesDead r old → mark_at v c.source ≡ Pending
     → ((q : ℕ) → mark_at w q ≡ cond (eqb q c.target) (mark_at v c.source) (cond (eqb q c.source) Dead (mark_at v q))) → AreFollowed r old before v now → AreFollowed r old before w (all_repointed c.source c.target now)
@@ -274,6 +275,7 @@ followed_more r old v w before now n c at h dead has marks follows =
         subst (λ (x : CopyOf). is_live (mark_at old x.source) ≡ true → image x.target ≡ image x.source) (sym at.is) (hold n c at.low) (ap is_live was) in
     record {
       marked = λ visible m. repoints v w visible now c.source c.target (follows.marked visible m) has (target_now is_pending Pending r old v n c at h ∙ copy) (λ q. marks q ∙ ap (λ x. cond (eqb q c.target) x (cond (eqb q c.source) Dead (mark_at v q))) has);
+      count = length-map now (option_map (map (repointed c.source c.target))) ∙ follows.count;
       rising = λ rising. rising_repointed now c.source c.target (follows.rising rising);
       pending = λ image hold. repointed_same image now c.source c.target (same image hold) ∙ follows.pending image hold;
       valued = λ image hold valued. valued_repointed (device_of old) image now c.source c.target (follows.valued image hold valued) (target_value r old n c at) (same image hold);

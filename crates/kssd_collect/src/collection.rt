@@ -3,11 +3,14 @@ ghost use Rattle.kv_nand.specs.Working.{Works, Stops};
 ghost use Rattle.kssd_tx.specs.Lists.{AreLists};
 ghost use Rattle.kssd_image.specs.Stages.{objects_in};
 ghost use Rattle.kssd_values.specs.Blocks.{free_room};
+ghost use Rattle.kssd_index.specs.Costs.{most_place_cost};
 ghost use Rattle.kssd_mounted.specs.Standing.{Stands, mounted_age, machine_at, Leaves};
 ghost use Rattle.kssd_collect.specs.Costs.{most_collect_cost, most_collect_reads};
 ghost use Rattle.kssd_collect.specs.Collecting.{IsCopied, IsEmptied};
 
 use crate::copying::{copy_all, victim_of};
+use crate::logging::{log_entries, ordered_moves};
+use crate::marking::{move_pending, move_visible};
 use kssd_mounted::Mounted;
 use kssd_reclaim::Reclaim;
 use kssd_tx::{TxId, TxTable};
@@ -67,6 +70,30 @@ fn copy_block<N: Nand>(
     let block = victim_of(&mounted.values);
     let reclaim = copy_all(alloc, nand, &mut mounted.values, block)?;
     Ok(reclaim)
+}
+
+// Names the copies of a block's pages in their place.
+fn name_copies<N: Nand>(
+    alloc: Global,
+    nand: &mut N,
+    mounted: &mut Mounted,
+    reclaim: &Reclaim,
+) -> Result<(), FlashFault>
+    requires copied { IsCopied reclaim.now mounted.old (N.flash nand.old) }
+    requires number { mounted_age mounted.old + 2 ^ 21 ≤ 2 ^ 63 }
+    ensures emptied { OnOk result (IsEmptied reclaim.now mounted.new (N.flash nand.new)) }
+    ensures machine { OnOk result (machine_at (N.flash nand.new) mounted.new ≡ machine_at (N.flash nand.old) mounted.old) }
+    ensures ages { mounted_age mounted.new ≤ mounted_age mounted.old + 2 ^ 9 }
+    ensures objects { objects_in (N.flash nand.new).image ≡ objects_in (N.flash nand.old).image }
+    ensures leaves { Leaves (N.flash nand.old) (mounted_age mounted.old + 2 ^ 9) (N.flash nand.new) }
+    ensures works { OnOk result (Works (N.flash nand.old) (N.flash nand.new) (most_place_cost (N.flash nand.old).blocks + 264) (2 ^ 64)) }
+    ensures stops { IfErr result (λ fault. Stops (N.flash nand.old) fault (N.flash nand.new) (most_place_cost (N.flash nand.old).blocks + 264) (2 ^ 64)) }
+{
+    let moves = ordered_moves(alloc, reclaim, &mounted.values)?;
+    log_entries(alloc, nand, &mut mounted.index, &moves)?;
+    move_visible(&mut mounted.values, reclaim);
+    move_pending(&mut mounted.values, &mut mounted.changes, reclaim);
+    Ok(())
 }
 
 // Erases the block, of which no page is named any more.

@@ -1,10 +1,15 @@
 // Putting the moves of values into the index.
 ghost use Rattle.std.specs.Prelude.{◌≡◌, ◌≤◌, ◌+◌, ◌^◌, true, length, [], IfOk, OnOk, IfErr};
+ghost use Rattle.std.specs.List.{AllByRecursion};
 ghost use Rattle.kv_nand.specs.Working.{Works, Stops};
 ghost use Rattle.kssd_layout.specs.Numbers.{max_keys_in, max_pages_in};
+ghost use Rattle.kssd_entry.specs.Spelling.{FitsEntry};
 ghost use Rattle.kssd_model.specs.Rising.{is_rising, merged};
 ghost use Rattle.kssd_image.specs.Stages.{shown_in};
 ghost use Rattle.kssd_image.specs.Whole.{pages_named, age_in};
+ghost use Rattle.kssd_values.specs.Places.{IsValueBlock};
+ghost use Rattle.kssd_values.specs.Blocks.{device_of};
+ghost use Rattle.kssd_reclaim.specs.Reclaim.{block_of, copies_of, moves_of};
 ghost use Rattle.kssd_index.specs.Standing.{IsIndex, index_age};
 ghost use Rattle.kssd_index.specs.Mapping.{with_entries, IsKept, IsBeforeOrAfter};
 ghost use Rattle.kssd_index.specs.Costs.{has_place_in, most_place_cost};
@@ -12,7 +17,9 @@ ghost use Rattle.kssd_index.specs.Costs.{has_place_in, most_place_cost};
 use kssd_entry::Entries;
 use kssd_index::Index;
 use kssd_model::copies_of;
+use kssd_reclaim::Reclaim;
 use kssd_table::Table;
+use kssd_values::Values;
 use kv_base::Memory;
 use kv_nand::{FlashFault, Nand};
 use std::alloc::Global;
@@ -27,6 +34,32 @@ pub fn in_order(alloc: Global, entries: &Entries) -> Result<Entries, Memory>
         table.put(alloc, entry.copy(alloc)?)?;
     }
     let ordered = copies_of(alloc, table.entries())?;
+    Ok(ordered)
+}
+
+// Reads how large entries are, which holds of each by its type.
+fn read_sizes(entries: &Entries)
+    ensures { AllByRecursion FitsEntry entries.now }
+{
+    for entry in entries.as_slice() {
+        entry.size();
+    }
+}
+
+// The moves of a collection by rising keys.
+pub fn ordered_moves(
+    alloc: Global,
+    reclaim: &Reclaim,
+    values: &Values,
+) -> Result<Entries, Memory>
+    requires block { IsValueBlock (device_of values.now) (block_of reclaim.now) }
+    requires few { length (copies_of reclaim.now) ≤ 31 }
+    ensures value { IfOk result (λ moves. moves ≡ merged (moves_of reclaim.now values.now) []) }
+    ensures fits { IfOk result (AllByRecursion FitsEntry) }
+{
+    let moves = reclaim.moves(alloc, values)?;
+    let ordered = in_order(alloc, &moves)?;
+    read_sizes(&ordered);
     Ok(ordered)
 }
 

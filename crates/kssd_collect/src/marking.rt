@@ -1,5 +1,5 @@
 // Giving the marks of pages to their copies.
-ghost use Rattle.std.specs.Prelude.{◌≡◌, ◌/◌, ◌==◌, ℕ, true, List, if◌then◌else◌};
+ghost use Rattle.std.specs.Prelude.{◌≡◌, ◌/◌, ◌==◌, ℕ, true, List, length, if◌then◌else◌};
 ghost use Rattle.kv_nand.specs.Flash.{Image};
 ghost use Rattle.kssd_entry.specs.declared.entry.Entry as lists;
 ghost use Rattle.kssd_values.specs.declared.mark.Mark.TheVariants as marks;
@@ -49,6 +49,7 @@ pub fn move_pending(values: &mut Values, changes: &mut TxTable, reclaim: &Reclai
     ensures marks { (page : ℕ) → mark_at values.new page ≡ moved_mark (pending_copies reclaim.now values.old) marks.Pending (mark_at values.old) page }
     ensures places { SamePlaces values.old values.new }
     ensures marked { (visible : List lists.Entry) → AreMarked values.old visible changes.old → AreMarked values.new visible changes.new }
+    ensures count { length changes.new ≡ length changes.old }
     ensures rising { are_rising changes.old ≡ true → are_rising changes.new ≡ true }
     ensures pending { (image : Image) → HoldTheSame reclaim.now values.old image → pending_in image changes.new ≡ pending_in image changes.old }
     ensures valued { (image : Image) → HoldTheSame reclaim.now values.old image → are_valued (device_of values.old) image changes.old ≡ true → are_valued (device_of values.old) image changes.new ≡ true }

@@ -59,6 +59,9 @@ returns-clause-places c = c.loop-copy.invariant.marks.places
 pub returns-clause-marked : goal.returns-clause-marked
 returns-clause-marked c = c.loop-copy.invariant.lists.marked
 
+pub returns-clause-count : goal.returns-clause-count
+returns-clause-count c = c.loop-copy.invariant.lists.count
+
 pub returns-clause-rising : goal.returns-clause-rising
 returns-clause-rising c = c.loop-copy.invariant.lists.rising
 

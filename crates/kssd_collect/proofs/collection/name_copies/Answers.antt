@@ -1,0 +1,95 @@
+use Rattle.std.proofs.Common.{◌≡◌, ◌∙◌, true, refl, sym, subst, arith}
+use Rattle.kv_nand.proofs.Chaining.{works_blocks, stops_blocks}
+use Rattle.kssd_index.proofs.Anchored.{aged_still}
+use Rattle.kssd_machine.specs.Names.{are_valued}
+use Rattle.kssd_collect.proofs.Named.{AreOrdered, few, rising, keys_low, pages_low, objects_logged, leaves_logged, machine_logged, copies_stand, stand_still, copies_dead, visible_marked, copies_hold, pending_valued, emptied}
+use Rattle.kssd_collect.proofs.collection.name_copies.Goals as goal
+
+pub returns-in_err-moves-clause-leaves : goal.returns-in_err-moves-clause-leaves
+returns-in_err-moves-clause-leaves g c =
+    let flash = g.N.Nand.flash c.args.nand.now in
+    let busy = c.requires.copied.busy in
+    let aged = aged_still c.args.mounted.now.index flash.blocks flash.image busy.index in
+    record { blocks = refl; whole = busy.whole; age_is = omega arith }
+
+pub log_entries-requires-clause-size : goal.log_entries-requires-clause-size
+log_entries-requires-clause-size g c =
+    let flash = g.N.Nand.flash c.args.nand.now in
+    few c.args.reclaim.now c.args.mounted.now flash c.in_ok-moves.moves (record { copied = c.requires.copied; is = c.in_ok-moves.ensures.value; fits = c.in_ok-moves.ensures.fits; sound = g.met.N.Nand.sound c.args.nand.now })
+
+pub log_entries-requires-clause-rising : goal.log_entries-requires-clause-rising
+log_entries-requires-clause-rising g c =
+    let flash = g.N.Nand.flash c.args.nand.now in
+    rising c.args.reclaim.now c.args.mounted.now flash c.in_ok-moves.moves (record { copied = c.requires.copied; is = c.in_ok-moves.ensures.value; fits = c.in_ok-moves.ensures.fits; sound = g.met.N.Nand.sound c.args.nand.now })
+
+pub log_entries-requires-clause-keys : goal.log_entries-requires-clause-keys
+log_entries-requires-clause-keys g c =
+    let flash = g.N.Nand.flash c.args.nand.now in
+    keys_low c.args.reclaim.now c.args.mounted.now flash c.in_ok-moves.moves (record { copied = c.requires.copied; is = c.in_ok-moves.ensures.value; fits = c.in_ok-moves.ensures.fits; sound = g.met.N.Nand.sound c.args.nand.now })
+
+pub log_entries-requires-clause-pages : goal.log_entries-requires-clause-pages
+log_entries-requires-clause-pages g c =
+    let flash = g.N.Nand.flash c.args.nand.now in
+    pages_low c.args.reclaim.now c.args.mounted.now flash c.in_ok-moves.moves (record { copied = c.requires.copied; is = c.in_ok-moves.ensures.value; fits = c.in_ok-moves.ensures.fits; sound = g.met.N.Nand.sound c.args.nand.now })
+
+pub returns-in_err-log_entries-clause-objects : goal.returns-in_err-log_entries-clause-objects
+returns-in_err-log_entries-clause-objects g c =
+    let old = g.N.Nand.flash c.args.nand.now in
+    let new = g.N.Nand.flash c.log_entries.new.nand in
+    objects_logged c.args.reclaim.now c.args.mounted.now old new.image c.in_ok-moves.moves (record { copied = c.requires.copied; is = c.in_ok-moves.ensures.value; fits = c.in_ok-moves.ensures.fits; sound = g.met.N.Nand.sound c.args.nand.now }) c.in_err-log_entries.ensures.kept
+
+pub returns-in_err-log_entries-clause-leaves : goal.returns-in_err-log_entries-clause-leaves
+returns-in_err-log_entries-clause-leaves g c =
+    let old = g.N.Nand.flash c.args.nand.now in
+    let new = g.N.Nand.flash c.log_entries.new.nand in
+    leaves_logged c.args.reclaim.now c.args.mounted.now old new c.in_ok-moves.moves _ (record { copied = c.requires.copied; is = c.in_ok-moves.ensures.value; fits = c.in_ok-moves.ensures.fits; sound = g.met.N.Nand.sound c.args.nand.now }) c.in_err-log_entries.ensures.kept
+    (stops_blocks old new _ _ _ c.in_err-log_entries.ensures.stops) c.in_err-log_entries.ensures.aged c.in_err-log_entries.ensures.ages
+
+pub move_pending-requires-clause-copies : goal.move_pending-requires-clause-copies
+move_pending-requires-clause-copies g c =
+    stand_still c.args.reclaim.now c.args.mounted.now.values c.move_visible.new.values c.move_visible.ensures.places (copies_stand c.args.reclaim.now c.args.mounted.now (g.N.Nand.flash c.args.nand.now) c.requires.copied)
+
+pub move_pending-requires-clause-dead : goal.move_pending-requires-clause-dead
+move_pending-requires-clause-dead g c = copies_dead c.args.reclaim.now c.args.mounted.now (g.N.Nand.flash c.args.nand.now) c.move_visible.new.values c.requires.copied c.move_visible.ensures.marks
+
+pub returns-clause-emptied : goal.returns-clause-emptied
+returns-clause-emptied g c =
+    let old = g.N.Nand.flash c.args.nand.now in
+    let new = g.N.Nand.flash c.log_entries.new.nand in
+    let r = c.args.reclaim.now in
+    let m = c.args.mounted.now in
+    let es = c.in_ok-moves.moves in
+    let logged = c.in_ok-log_entries.ensures in
+    let visible = c.move_visible.ensures in
+    let pending = c.move_pending.ensures in
+    let w = c.move_visible.new.values in
+    let device = visible.places.device ∙ c.requires.copied.busy.device in
+    let h : AreOrdered r m old es = record { copied = c.requires.copied; is = c.in_ok-moves.ensures.value; fits = c.in_ok-moves.ensures.fits; sound = g.met.N.Nand.sound c.args.nand.now } in
+    emptied r m old new es c.log_entries.new.index w c.move_pending.new.values c.move_pending.new.changes _ _ h logged.kept logged.works logged.stands logged.shown visible.marks visible.places pending.marks pending.places
+    pending.count (pending.rising h.copied.busy.rising)
+    (subst (λ n. are_valued n new.image c.move_pending.new.changes ≡ true) device (pending.valued new.image (copies_hold r m old new.image es w h logged.kept visible.marks) (subst (λ n. are_valued n new.image m.changes ≡ true) (sym device) (pending_valued r m old new.image es h logged.kept))))
+    (pending.marked _ (visible_marked r m old new.image es w h logged.shown visible.marks))
+
+pub returns-clause-machine : goal.returns-clause-machine
+returns-clause-machine g c =
+    let old = g.N.Nand.flash c.args.nand.now in
+    let new = g.N.Nand.flash c.log_entries.new.nand in
+    let r = c.args.reclaim.now in
+    let m = c.args.mounted.now in
+    let es = c.in_ok-moves.moves in
+    let logged = c.in_ok-log_entries.ensures in
+    let h : AreOrdered r m old es = record { copied = c.requires.copied; is = c.in_ok-moves.ensures.value; fits = c.in_ok-moves.ensures.fits; sound = g.met.N.Nand.sound c.args.nand.now } in
+    machine_logged r m old new es _ _ c.move_pending.new.changes h logged.kept logged.works (c.move_pending.ensures.pending new.image (copies_hold r m old new.image es c.move_visible.new.values h logged.kept c.move_visible.ensures.marks))
+
+pub returns-clause-objects : goal.returns-clause-objects
+returns-clause-objects g c =
+    let old = g.N.Nand.flash c.args.nand.now in
+    let new = g.N.Nand.flash c.log_entries.new.nand in
+    objects_logged c.args.reclaim.now c.args.mounted.now old new.image c.in_ok-moves.moves (record { copied = c.requires.copied; is = c.in_ok-moves.ensures.value; fits = c.in_ok-moves.ensures.fits; sound = g.met.N.Nand.sound c.args.nand.now }) c.in_ok-log_entries.ensures.kept
+
+pub returns-clause-leaves : goal.returns-clause-leaves
+returns-clause-leaves g c =
+    let old = g.N.Nand.flash c.args.nand.now in
+    let new = g.N.Nand.flash c.log_entries.new.nand in
+    leaves_logged c.args.reclaim.now c.args.mounted.now old new c.in_ok-moves.moves _ (record { copied = c.requires.copied; is = c.in_ok-moves.ensures.value; fits = c.in_ok-moves.ensures.fits; sound = g.met.N.Nand.sound c.args.nand.now }) c.in_ok-log_entries.ensures.kept
+    (works_blocks old new _ _ c.in_ok-log_entries.ensures.works) c.in_ok-log_entries.ensures.aged c.in_ok-log_entries.ensures.ages
