@@ -1,19 +1,16 @@
 -- What stays of a device while pages of values are copied and erased.
-use Rattle.std.proofs.Common.{◌≡◌, ◌≢◌, ◌∙◌, ◌⊎◌, inl, inr, ℕ, ◌+◌, ◌-◌, ◌*◌, ◌/◌, ◌<◌, ◌≤◌, Bool, true, false, cond, max, List, [], length, refl, sym, ap, subst, arith}
-use Rattle.std.proofs.lemmas.Bool.{cases_lt}
-use Rattle.kv_nand.specs.Flash.{Flash, Image, Erased, MayProgram}
+use Rattle.std.proofs.Common.{◌≡◌, ◌≢◌, ◌∙◌, ℕ, ◌+◌, ◌-◌, ◌*◌, ◌/◌, ◌<◌, ◌≤◌, Bool, true, false, cond, max, List, [], length, refl, sym, ap, subst, arith}
+use Rattle.kv_nand.specs.Flash.{Flash, Image}
 use Rattle.kv_nand.specs.Working.{Works}
 use Rattle.kv_nand.proofs.Chaining.{works_blocks, works_powered}
-use Rattle.kssd_layout.specs.Numbers.{first_value_block_in, value_blocks_in, region_in}
+use Rattle.kssd_layout.specs.Numbers.{value_blocks_in, region_in}
 use Rattle.kssd_layout.specs.declared.region.Region.TheVariants as regions
 use Rattle.kssd_entry.specs.declared.entry.Entry.{Entry}
-use Rattle.kssd_model.specs.declared.anchor.Anchor.{Anchor}
 use Rattle.kssd_model.specs.Groups.{Walk, rest_from, turn_count, groups_from}
 use Rattle.kssd_model.specs.Rising.{merged}
-use Rattle.kssd_image.specs.Stages as stages
 use Rattle.kssd_image.specs.Stages.{entries_of, shown_in, objects_in}
-use Rattle.kssd_image.specs.AnchorForm.{IsAnchorForm, anchor_age, blocks_of}
-use Rattle.kssd_image.specs.Whole.{log_of, pages_named, has_its_value, IsWhole, age_in}
+use Rattle.kssd_image.specs.AnchorForm.{IsAnchorForm, anchor_age}
+use Rattle.kssd_image.specs.Whole.{pages_named, has_its_value, IsWhole, age_in}
 use Rattle.kssd_frames.specs.Same.{as_counted, StaysBy, Stays}
 use Rattle.kssd_frames.proofs.Places.{region_of_values, run_pages_named}
 use Rattle.kssd_frames.proofs.SameImages.{newest_in_alike, index_stays}
@@ -23,13 +20,13 @@ use Rattle.kssd_values.specs.declared.mark.Mark.{Mark}
 use Rattle.kssd_values.specs.declared.mark.Mark.TheVariants.{Pending, Visible, Dead}
 use Rattle.kssd_values.specs.declared.values.Values.{Values}
 use Rattle.kssd_values.specs.Places.{IsValueBlock}
-use Rattle.kssd_values.specs.Blocks.{device_of, mark_at, is_live_at, open_room, has_target, free_count, free_room, live_count, target_next}
-use Rattle.kssd_values.specs.Pages.{is_value, Fills, KeepsPages, LiveStand, StandsIn}
+use Rattle.kssd_values.specs.Blocks.{device_of, mark_at, open_room, has_target, free_count, free_room, live_count}
+use Rattle.kssd_values.specs.Pages.{Fills, KeepsPages, StandsIn}
 use Rattle.kssd_values.specs.Changes.{SameMarks, Clears}
 use Rattle.kssd_values.proofs.Standing.{not_erased}
 use Rattle.kssd_log.specs.Ring.{IsRingPage}
 use Rattle.kssd_index.specs.declared.index.Index.{Index}
-use Rattle.kssd_index.specs.Standing.{IsIndex, table_of}
+use Rattle.kssd_index.specs.Standing.{IsIndex}
 use Rattle.kssd_index.proofs.Anchored.{aged_still}
 use Rattle.kssd_index.proofs.Appending.{ring_page}
 use Rattle.kssd_index.proofs.Logs.{same_table}
@@ -40,10 +37,9 @@ use Rattle.kssd_machine.specs.Machines.{machine_of}
 use Rattle.kssd_machine.specs.Marked.{is_pending, AreMarked, HasBlock}
 use Rattle.kssd_machine.proofs.Standing.{stays, works_same}
 use Rattle.kssd_machine.proofs.Keeping.{objects_stay, live_stand, pending_stays, still_valued}
-use Rattle.kssd_machine.proofs.Remaining.{block_after_clear}
 use Rattle.kssd_machine.proofs.Spacing.{live_most, within_limit, room_collected, room_cleared}
 use Rattle.kssd_mounted.specs.declared.mounted.Mounted.{Mounted}
-use Rattle.kssd_mounted.specs.Standing.{Stands, Leaves, mounted_age, machine_at}
+use Rattle.kssd_mounted.specs.Standing.{Stands, Leaves, mounted_age}
 use Rattle.kssd_collect.specs.Collecting.{IsBusy, IsEmptied}
 
 -- ---- the index

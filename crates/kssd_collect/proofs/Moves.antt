@@ -13,7 +13,7 @@ use Rattle.kssd_values.specs.declared.mark.Mark.TheVariants.{Pending, Visible, D
 use Rattle.kssd_values.specs.declared.filling.Filling.{Filling}
 use Rattle.kssd_values.specs.declared.values.Values.{Values}
 use Rattle.kssd_values.specs.Places.{IsValueBlock, is_in, is_below_in}
-use Rattle.kssd_values.specs.Blocks.{Free, Open, Closed, Target, device_of, mark_at, state_at, is_target_page, IsClosed}
+use Rattle.kssd_values.specs.Blocks.{Free, Open, Closed, Target, device_of, mark_at, state_at, is_target_page}
 use Rattle.kssd_values.specs.Changes.{SamePlaces}
 use Rattle.kssd_values.proofs.States.{target_alone}
 use Rattle.kssd_reclaim.specs.declared.copies.CopyOf.{CopyOf}
@@ -156,9 +156,9 @@ no_target_source test r old n c at = none_first (λ d. eqb d.target c.source) (�
 pub source_now : (test : Mark → Bool) (mark : Mark) (r : Reclaim) (old v : Values) (n : ℕ) (c : CopyOf) → IsAt r old n c → IsMarked test mark r old n v → mark_at v c.source ≡ mark_at old c.source
 source_now test mark r old v n c at h = h.marks c.source ∙ neither test mark r old n c.source (no_target_source test r old n c at)
     (none_first (λ d. eqb d.source c.source) (λ copy. test (mark_at old copy.source)) n (copies_of r) (λ i d few low. ne_eqb (get_or (copies_of r) i d).source c.source (λ same.
-        let less = r.sound.rising i n d few at.low in
-        let here = ap (λ (x : CopyOf). x.source) (at.is ∙ other d) in
-        absurd (omega arith))))
+    let less = r.sound.rising i n d few at.low in
+    let here = ap (λ (x : CopyOf). x.source) (at.is ∙ other d) in
+    absurd (omega arith))))
   where
     other : (d : CopyOf) → get_or (copies_of r) n c ≡ get_or (copies_of r) n d
     other d = get_or_default (copies_of r) n c d at.low
@@ -167,14 +167,14 @@ source_now test mark r old v n c at h = h.marks c.source ∙ neither test mark r
 pub target_now : (test : Mark → Bool) (mark : Mark) (r : Reclaim) (old v : Values) (n : ℕ) (c : CopyOf) → IsAt r old n c → IsMarked test mark r old n v → mark_at v c.target ≡ mark_at old c.target
 target_now test mark r old v n c at h = h.marks c.target ∙ neither test mark r old n c.target
     (none_first (λ d. eqb d.target c.target) (λ copy. test (mark_at old copy.source)) n (copies_of r) (λ i d few low. ne_eqb (get_or (copies_of r) i d).target c.target (λ same.
-        let less = at.stand.rising i n d few at.low in
-        let here = ap (λ (x : CopyOf). x.target) (at.is ∙ other d) in
-        absurd (omega arith))))
+    let less = at.stand.rising i n d few at.low in
+    let here = ap (λ (x : CopyOf). x.target) (at.is ∙ other d) in
+    absurd (omega arith))))
     (none_first (λ d. eqb d.source c.target) (λ copy. test (mark_at old copy.source)) n (copies_of r) (λ i d few low. ne_eqb (get_or (copies_of r) i d).source c.target (λ same.
-        let state = (target_block old c.target (target_is r old n c at)).0 in
-        let here = r.sound.block_is i d low in
-        let e : Closed ≡ Target = sym at.stand.closed.closed ∙ ap (state_at old) (sym here ∙ ap (λ (p : ℕ). p / 32) same) ∙ state in
-        absurd cc)))
+    let state = (target_block old c.target (target_is r old n c at)).0 in
+    let here = r.sound.block_is i d low in
+    let e : Closed ≡ Target = sym at.stand.closed.closed ∙ ap (state_at old) (sym here ∙ ap (λ (p : ℕ). p / 32) same) ∙ state in
+    absurd cc)))
   where
     other : (d : CopyOf) → get_or (copies_of r) n c ≡ get_or (copies_of r) n d
     other d = get_or_default (copies_of r) n c d at.low
@@ -225,7 +225,7 @@ marked_more test mark r old v w n c at h is has marks places = record {
       marks page
       ∙ (λ i. cond (turned page c.target i) (mark_at v c.source) (cond (turned page c.source i) Dead (mark_at v page)))
       ∙ settled (eqb c.target page) (eqb c.source page) (list_any (λ d. eqb d.target page) (picked test old n r)) (list_any (λ d. eqb d.source page) (picked test old n r)) mark (mark_at old page) (mark_at v c.source) (mark_at v page) has
-          (λ same. ap (λ p. list_any (λ d. eqb d.target p) (picked test old n r)) (sym (eqb-true c.source page same)) ∙ no_target_source test r old n c at) (h.marks page)
+      (λ same. ap (λ p. list_any (λ d. eqb d.target p) (picked test old n r)) (sym (eqb-true c.source page same)) ∙ no_target_source test r old n c at) (h.marks page)
       ∙ sym (more_marks test mark r old n c true page at is);
   places = places_then old v w h.places places;
 }
@@ -272,7 +272,7 @@ followed_more r old v w before now n c at h dead has marks follows =
     let was : mark_at old c.source ≡ Pending = sym (source_now is_pending Pending r old v n c at h) ∙ has in
     let copy : mark_at old c.target ≡ Dead = subst (λ (x : CopyOf). is_pending (mark_at old x.source) ≡ true → mark_at old x.target ≡ Dead) (sym at.is) (dead n c at.low) (ap is_pending was) in
     let same : (image : Image) → HoldTheSame r old image → image c.target ≡ image c.source = λ image hold.
-        subst (λ (x : CopyOf). is_live (mark_at old x.source) ≡ true → image x.target ≡ image x.source) (sym at.is) (hold n c at.low) (ap is_live was) in
+    subst (λ (x : CopyOf). is_live (mark_at old x.source) ≡ true → image x.target ≡ image x.source) (sym at.is) (hold n c at.low) (ap is_live was) in
     record {
       marked = λ visible m. repoints v w visible now c.source c.target (follows.marked visible m) has (target_now is_pending Pending r old v n c at h ∙ copy) (λ q. marks q ∙ ap (λ x. cond (eqb q c.target) x (cond (eqb q c.source) Dead (mark_at v q))) has);
       count = length-map now (option_map (map (repointed c.source c.target))) ∙ follows.count;

@@ -1,9 +1,9 @@
 -- The copies of a block are named in the place of its pages.
-use Rattle.std.proofs.Common.{◌≡◌, ◌≢◌, ◌∙◌, ◌⊎◌, inl, inr, ℕ, zero, suc, ◌+◌, ◌*◌, ◌/◌, ◌%◌, ◌<◌, ◌≤◌, ◌^◌, Bool, true, false, cond, ◌||◌, eqb, List, [], ◌∷◌, length, get_or, map, Option, Some, None, refl, sym, ap, subst, arith}
+use Rattle.std.proofs.Common.{◌≡◌, ◌∙◌, ◌⊎◌, inl, inr, ℕ, suc, ◌+◌, ◌/◌, ◌<◌, ◌≤◌, ◌^◌, Bool, true, false, cond, ◌||◌, eqb, List, [], ◌∷◌, length, get_or, map, Option, Some, None, refl, sym, ap, subst, arith}
 use Rattle.std.specs.Prelude.{filter}
 use Rattle.std.specs.List.{AllByRecursion, list_any, list_all}
-use Rattle.std.proofs.lemmas.Bool.{and_from, eqb-true, eq-eqb, ne_eqb, le-leb, lt-ltb, cases_eq, cases_lt, or_left, or_right}
-use Rattle.kv_nand.specs.Flash.{Flash, Image, Erased, IsSound}
+use Rattle.std.proofs.lemmas.Bool.{and_from, eqb-true, le-leb, lt-ltb, cases_eq, cases_lt, or_left, or_right}
+use Rattle.kv_nand.specs.Flash.{Flash, Image, IsSound}
 use Rattle.kv_nand.specs.Working.{Works}
 use Rattle.kv_nand.proofs.Chaining.{works_blocks, works_powered}
 use Rattle.kssd_layout.specs.Numbers.{max_keys_in, max_pages_in, first_value_block_in}
@@ -11,7 +11,7 @@ use Rattle.kssd_entry.specs.declared.entry.Entry.{Entry}
 use Rattle.kssd_entry.specs.Spelling.{FitsEntry}
 use Rattle.kssd_model.specs.Rising.{merged}
 use Rattle.kssd_image.specs.Stages.{shown_in, objects_in}
-use Rattle.kssd_image.specs.Whole.{pages_named, has_its_value, is_unnamed, leaves_a_block, AreValuesWhole, IsWhole, age_in}
+use Rattle.kssd_image.specs.Whole.{pages_named, has_its_value, AreValuesWhole, IsWhole, age_in}
 use Rattle.kssd_frames.specs.Logging.{shown_after}
 use Rattle.kssd_frames.proofs.Changes.{values_merge, block_left}
 use Rattle.kssd_frames.proofs.ShownLaws.{shown_in_rises}
@@ -22,11 +22,11 @@ use Rattle.kssd_values.specs.declared.mark.Mark.TheVariants.{Pending, Visible, D
 use Rattle.kssd_values.specs.declared.filling.Filling.{Filling}
 use Rattle.kssd_values.specs.declared.values.Values.{Values}
 use Rattle.kssd_values.specs.Places.{IsValueBlock}
-use Rattle.kssd_values.specs.Blocks.{Closed, Target, device_of, mark_at, is_live_at, state_at, target_next, IsClosed}
+use Rattle.kssd_values.specs.Blocks.{device_of, mark_at, IsClosed}
 use Rattle.kssd_values.specs.Pages.{Fills, FillsIn}
 use Rattle.kssd_values.specs.Changes.{SamePlaces}
 use Rattle.kssd_index.specs.declared.index.Index.{Index}
-use Rattle.kssd_index.specs.Standing.{IsIndex, index_age}
+use Rattle.kssd_index.specs.Standing.{IsIndex}
 use Rattle.kssd_index.specs.Mapping.{with_entries, IsBeforeOrAfter}
 use Rattle.kssd_index.proofs.Logs.{has_bytes}
 use Rattle.kssd_reclaim.specs.declared.copies.CopyOf.{CopyOf}
@@ -35,7 +35,7 @@ use Rattle.kssd_reclaim.specs.Sources.{is_visible, move_of}
 use Rattle.kssd_reclaim.specs.Reclaim.{block_of, copies_of, moves_of}
 use Rattle.kssd_machine.specs.Names.{are_rising, are_valued, times_pending}
 use Rattle.kssd_machine.specs.Machines.{machine_of, pending_in}
-use Rattle.kssd_machine.specs.Marked.{is_pending, is_named, AreMarked, IsRemarked, HasBlock}
+use Rattle.kssd_machine.specs.Marked.{is_pending, is_named, AreMarked, IsRemarked}
 use Rattle.kssd_machine.specs.Sizes.{replaced}
 use Rattle.kssd_machine.specs.Collecting.{AreMoves, visible_copies, is_source}
 use Rattle.kssd_machine.proofs.Copying.{all_gone}
@@ -48,8 +48,8 @@ use Rattle.kssd_machine.proofs.Remaining.{block_after_mark}
 use Rattle.kssd_machine.proofs.Standing.{stays, works_same}
 use Rattle.kssd_mounted.specs.declared.mounted.Mounted.{Mounted}
 use Rattle.kssd_mounted.specs.Standing.{Leaves, mounted_age}
-use Rattle.kssd_collect.specs.Moved.{CopiesStand, pending_copies, moved_mark, AreCopiesDead, HoldTheSame}
-use Rattle.kssd_collect.specs.Collecting.{IsBusy, IsCopied, IsEmptied}
+use Rattle.kssd_collect.specs.Moved.{CopiesStand, moved_mark, AreCopiesDead, HoldTheSame}
+use Rattle.kssd_collect.specs.Collecting.{IsCopied, IsEmptied}
 use Rattle.kssd_collect.proofs.Moves.{apart, target_block, places_then}
 
 -- ---- the moves
@@ -208,7 +208,7 @@ in_block : (test : Mark → Bool) (mark : Mark) (r : Reclaim) (v w : Values) (pa
 in_block test mark r v w page stand moved here =
     moved page
     ∙ ap (λ b. cond b mark (cond (list_any (λ c. eqb c.source page) (filter (λ copy. test (mark_at v copy.source)) (copies_of r))) Dead (mark_at v page)))
-        (fewer_filtered (λ c. eqb c.target page) (λ copy. test (mark_at v copy.source)) (copies_of r) (none (copies_of r) (λ i d low. apart r v i d page stand low here)))
+    (fewer_filtered (λ c. eqb c.target page) (λ copy. test (mark_at v copy.source)) (copies_of r) (none (copies_of r) (λ i d low. apart r v i d page stand low here)))
   where
     none : (cs : List CopyOf) → ((i : ℕ) (d : CopyOf) → i < length cs → eqb (get_or cs i d).target page ≡ false) → list_any (λ c. eqb c.target page) cs ≡ false
     none [] h = refl
@@ -284,7 +284,7 @@ copies_dead r m flash w h moved i d low pending =
     ] in
     moved c.target
     ∙ ap (λ b. cond b Visible (cond (list_any (λ x. eqb x.source c.target) (filter (λ copy. is_visible (mark_at v copy.source)) (copies_of r))) Dead (mark_at v c.target)))
-        (none_filtered (λ x. eqb x.target c.target) (λ copy. is_visible (mark_at v copy.source)) (copies_of r) (λ j e within same. ap (λ (x : CopyOf). is_visible (mark_at v x.source)) (only stand j e within (eqb-true _ c.target same)) ∙ was))
+    (none_filtered (λ x. eqb x.target c.target) (λ copy. is_visible (mark_at v copy.source)) (copies_of r) (λ j e within same. ap (λ (x : CopyOf). is_visible (mark_at v x.source)) (only stand j e within (eqb-true _ c.target same)) ∙ was))
     ∙ dead (list_any (λ x. eqb x.source c.target) (filter (λ copy. is_visible (mark_at v copy.source)) (copies_of r))) (h.copies.targets.dead c.target target.0)
   where
     hidden : (mark : Mark) → is_pending mark ≡ true → is_visible mark ≡ false
@@ -313,7 +313,7 @@ visible_marked r m old new es w h shown moved =
     let are = moves r m old h.copied in
     let rises = shown_in_rises old.image in
     let remarked : IsRemarked v (replaced (shown_in old.image) ms) ms Visible w = λ page.
-        moved page ∙ (λ i. cond (sym (named_targets page (visible_copies r v)) i) Visible (cond (sym (are.sources page) i) Dead (mark_at v page))) in
+    moved page ∙ (λ i. cond (sym (named_targets page (visible_copies r v)) i) Visible (cond (sym (are.sources page) i) Dead (mark_at v page))) in
     let same : shown_in new ≡ shown_after old.image ms = shown ∙ ap (shown_after old.image) h.is ∙ ap Rattle.kssd_image.specs.Stages.without_marks (grouping.same_outcome ms (shown_in old.image) rises) in
     subst (λ (xs : List Entry). AreMarked w xs m.changes) (sym same)
     (moved_marks v w (shown_in old.image) ms m.changes rises are.differ h.copied.busy.marked are.dead are.once remarked)
@@ -355,7 +355,7 @@ pub pending_valued : (r : Reclaim) (m : Mounted) (old : Flash) (new : Image) (es
 pending_valued r m old new es h kept =
     let busy = h.copied.busy in
     still_valued old.blocks old.image new m.changes busy.valued (λ page some. kept.values page
-        (live_holds old.blocks m.values old.image (shown_in old.image) m.changes page busy.marked busy.whole.values.pages busy.valued (live (mark_at m.values page) (times_pending page m.changes) (busy.marked.pending page) some)).0.first)
+    (live_holds old.blocks m.values old.image (shown_in old.image) m.changes page busy.marked busy.whole.values.pages busy.valued (live (mark_at m.values page) (times_pending page m.changes) (busy.marked.pending page) some)).0.first)
   where
     live : (mark : Mark) (n : ℕ) → n ≡ cond (is_pending mark) 1 0 → 1 ≤ n → is_live mark ≡ true
     live Pending n e one = refl

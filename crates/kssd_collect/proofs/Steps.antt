@@ -9,19 +9,18 @@ use Rattle.kssd_values.specs.Marks.{is_live}
 use Rattle.kssd_values.specs.declared.filling.Filling.{Filling}
 use Rattle.kssd_values.specs.declared.values.Values.{Values}
 use Rattle.kssd_values.specs.Places.{IsValueBlock, is_in, next_in, is_below_in}
-use Rattle.kssd_values.specs.Blocks.{Free, Open, Closed, Target, device_of, mark_at, is_live_at, state_at, has_target, free_count, open_next, copied, is_target_page, is_filled, IsClosed, IsVictim}
-use Rattle.kssd_values.specs.Pages.{is_value, Fills, KeepsPages, LiveStand, StandsIn}
+use Rattle.kssd_values.specs.Blocks.{Free, Open, Closed, Target, device_of, is_live_at, state_at, has_target, free_count, open_next, is_target_page, is_filled, IsClosed, IsVictim}
+use Rattle.kssd_values.specs.Pages.{is_value, Fills, KeepsPages, StandsIn}
 use Rattle.kssd_values.specs.Changes.{SameMarks, Copies}
-use Rattle.kssd_values.proofs.Standing.{not_erased, live_stays}
+use Rattle.kssd_values.proofs.Standing.{live_stays}
 use Rattle.kssd_reclaim.specs.declared.reclaim.Reclaim.{Reclaim}
 use Rattle.kssd_reclaim.specs.Reclaim.{block_of, next_of, copies_of, AllCopied, Collects}
-use Rattle.kssd_reclaim.specs.Steps.{Steps, Idles, Begins, CopiesNext}
+use Rattle.kssd_reclaim.specs.Steps.{Steps}
 use Rattle.kssd_machine.specs.Marked.{HasBlock}
-use Rattle.kssd_machine.specs.Collecting.{HasTargets, AreFew}
 use Rattle.kssd_machine.proofs.Remaining.{block_after_copy}
 use Rattle.kssd_machine.proofs.Moving.{targets_kept}
-use Rattle.kssd_machine.proofs.Copying.{few_first, few_after, few_copied}
-use Rattle.kssd_collect.specs.Copied.{HasCopies, copies_left, IsCopying}
+use Rattle.kssd_machine.proofs.Copying.{few_first, few_after}
+use Rattle.kssd_collect.specs.Copied.{copies_left, IsCopying}
 
 -- ---- what a step does to the blocks
 
@@ -41,9 +40,10 @@ below_open v q = by v.opened refl
     by None e h = absurd cc
     by (Some f) e h =
         let both = and_parts (eqb (q / 32) f.block) (ltb (q % 32) f.next) h in
-        let here : is_in v.opened (q / 32) ≡ true = ap (λ (o : Option Filling). is_in o (q / 32)) e ∙ eq-eqb f.block (q / 32) (sym (eqb-true (q / 32) f.block both.0)) in
-        (ap (λ b. cond b Open (cond (is_in v.target (q / 32)) Target (cond (Rattle.std.proofs.Common.get_or v.free.items (q / 32) false) Free Closed))) here,
-        subst (λ (o : Option Filling). q % 32 < next_in o) (sym e) (Rattle.std.proofs.lemmas.Bool.ltb-true (q % 32) f.next both.1))
+        let here : is_in v.opened (q / 32) ≡ true = ap (λ (o : Option Filling). is_in o (q / 32)) e ∙ eq-eqb f.block (q / 32) (sym (eqb-true (q / 32) f.block both.0)) in (
+          ap (λ b. cond b Open (cond (is_in v.target (q / 32)) Target (cond (Rattle.std.proofs.Common.get_or v.free.items (q / 32) false) Free Closed))) here,
+          subst (λ (o : Option Filling). q % 32 < next_in o) (sym e) (Rattle.std.proofs.lemmas.Bool.ltb-true (q % 32) f.next both.1),
+        )
 
 open_below : (v : Values) (q : ℕ) → state_at v (q / 32) ≡ Open → q % 32 < open_next v → is_below_in v.opened q ≡ true
 open_below v q state low = by v.opened refl low

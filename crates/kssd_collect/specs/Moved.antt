@@ -1,5 +1,5 @@
 -- Marks that go from pages to their copies.
-use Rattle.std.specs.Prelude.{◌≡◌, ◌<◌, ◌==◌, ℕ, Bool, true, List, length, get_or, filter, if◌then◌else◌}
+use Rattle.std.specs.Prelude.{◌≡◌, ◌<◌, ◌==◌, ℕ, true, List, length, get_or, filter, if◌then◌else◌}
 use Rattle.std.specs.List.{list_any}
 use Rattle.kv_nand.specs.Flash.{Image}
 use Rattle.kssd_values.specs.declared.mark.Mark.{Mark}

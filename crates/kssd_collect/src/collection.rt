@@ -37,10 +37,10 @@ pub fn collect<N: Nand>(
     ensures works { OnOk result (Works (N.flash nand.old) (N.flash nand.new) (most_collect_cost (N.flash nand.old).blocks) most_collect_reads) }
     ensures stops { IfErr result (λ fault. Stops (N.flash nand.old) fault (N.flash nand.new) (most_collect_cost (N.flash nand.old).blocks) most_collect_reads) }
 {
-    let _alloc = alloc;
-    let _nand = nand;
-    let _mounted = mounted;
-    Err(FlashFault::Memory)
+    let reclaim = copy_block(alloc, nand, mounted)?;
+    name_copies(alloc, nand, mounted, &reclaim)?;
+    erase_block(nand, mounted, reclaim)?;
+    Ok(())
 }
 
 // Looks at the lists of changes, which are within their bounds.

@@ -47,11 +47,7 @@ fn read_sizes(entries: &Entries)
 }
 
 // The moves of a collection by rising keys.
-pub fn ordered_moves(
-    alloc: Global,
-    reclaim: &Reclaim,
-    values: &Values,
-) -> Result<Entries, Memory>
+pub fn ordered_moves(alloc: Global, reclaim: &Reclaim, values: &Values) -> Result<Entries, Memory>
     requires block { IsValueBlock (device_of values.now) (block_of reclaim.now) }
     requires few { length (copies_of reclaim.now) ≤ 31 }
     ensures value { IfOk result (λ moves. moves ≡ merged (moves_of reclaim.now values.now) []) }

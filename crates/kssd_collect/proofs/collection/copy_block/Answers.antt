@@ -1,6 +1,6 @@
 use Rattle.std.proofs.Common.{◌∙◌, sym}
 use Rattle.kv_nand.proofs.Chaining.{works_blocks, stops_blocks}
-use Rattle.kssd_collect.proofs.Kept.{busy_from, values_stand, objects_kept, leaves_kept, busy_kept, machine_kept, few_live, few_free}
+use Rattle.kssd_collect.proofs.Kept.{busy_from, values_stand, objects_kept, leaves_kept, busy_kept, machine_kept, few_live}
 use Rattle.kssd_collect.proofs.collection.copy_block.Goals as goal
 
 pub victim_of-block-requires-clause-room : goal.victim_of-block-requires-clause-room

@@ -1,4 +1,3 @@
-use Rattle.std.proofs.Common.{◌∙◌}
 use Rattle.std.proofs.lemmas.Result.{err_from_is_err_and}
 use Rattle.kv_nand.proofs.Chaining.{falls_stops, falls_blocks, erased_works, works_blocks}
 use Rattle.kssd_reclaim.specs.Reclaim.{block_of}

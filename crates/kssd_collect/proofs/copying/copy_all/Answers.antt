@@ -1,6 +1,6 @@
-use Rattle.std.proofs.Common.{◌∙◌, true, false, arith}
+use Rattle.std.proofs.Common.{arith}
 use Rattle.std.proofs.lemmas.Result.{err_from_is_err_and}
-use Rattle.kv_nand.proofs.Chaining.{works_then_stops, works_within, stops_within, stops_at_once}
+use Rattle.kv_nand.proofs.Chaining.{works_then_stops, works_within, stops_within}
 use Rattle.kssd_machine.proofs.Copying.{few_copied}
 use Rattle.kssd_collect.proofs.Steps.{pages_stand, has_block, begun, copying_on, keeps_on, falls, left_most}
 use Rattle.kssd_collect.proofs.copying.copy_all.Goals as goal

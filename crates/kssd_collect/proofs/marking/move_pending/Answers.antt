@@ -1,9 +1,8 @@
-use Rattle.std.proofs.Common.{◌≡◌, ◌∙◌, ℕ, ◌+◌, ◌/◌, true, refl, sym, ap, subst}
+use Rattle.std.proofs.Common.{◌∙◌, ℕ, ◌+◌, ◌/◌, sym, ap, subst}
 use Rattle.kssd_tx.specs.Lists.{Transactions}
 use Rattle.kssd_values.specs.declared.mark.Mark.TheVariants.{Pending}
 use Rattle.kssd_values.specs.declared.values.Values.{Values}
 use Rattle.kssd_values.specs.Places.{IsValueBlock}
-use Rattle.kssd_values.specs.Blocks.{device_of}
 use Rattle.kssd_machine.specs.Marked.{is_pending}
 use Rattle.kssd_collect.proofs.Moves.{IsMarked, AreFollowed, at_from, source_value, target_is, none_marked, none_followed, source_now, passed_by, marked_more, followed_more, marked_all, not_pending}
 use Rattle.kssd_collect.proofs.marking.move_pending.Goals as goal

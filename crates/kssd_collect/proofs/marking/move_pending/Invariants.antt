@@ -1,4 +1,3 @@
-use Rattle.std.proofs.Common.{◌≡◌}
 use Rattle.kssd_values.specs.declared.mark.Mark.TheVariants.{Pending}
 use Rattle.kssd_machine.specs.Marked.{is_pending}
 use Rattle.kssd_collect.proofs.Moves.{IsMarked, AreFollowed}

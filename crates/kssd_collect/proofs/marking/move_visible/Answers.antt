@@ -1,8 +1,7 @@
-use Rattle.std.proofs.Common.{◌≡◌, ◌∙◌, ℕ, ◌+◌, ◌/◌, true, refl, sym, ap, subst}
+use Rattle.std.proofs.Common.{◌∙◌, ℕ, ◌+◌, ◌/◌, sym, ap, subst}
 use Rattle.kssd_values.specs.declared.mark.Mark.TheVariants.{Visible}
 use Rattle.kssd_values.specs.declared.values.Values.{Values}
 use Rattle.kssd_values.specs.Places.{IsValueBlock}
-use Rattle.kssd_values.specs.Blocks.{device_of}
 use Rattle.kssd_reclaim.specs.Sources.{is_visible}
 use Rattle.kssd_collect.proofs.Moves.{IsMarked, at_from, source_value, target_is, none_marked, source_now, passed_by, marked_more, marked_all, not_visible}
 use Rattle.kssd_collect.proofs.marking.move_visible.Goals as goal

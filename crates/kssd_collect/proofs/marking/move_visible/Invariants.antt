@@ -1,4 +1,3 @@
-use Rattle.std.proofs.Common.{◌≡◌}
 use Rattle.kssd_values.specs.declared.mark.Mark.TheVariants.{Visible}
 use Rattle.kssd_reclaim.specs.Sources.{is_visible}
 use Rattle.kssd_collect.proofs.Moves.{IsMarked}
