@@ -1,8 +1,6 @@
 -- What is left where a value isn't set.
 use Rattle.std.proofs.Common.{◌≡◌, ◌≤◌, ◌∙◌, ℕ, Bool, true, false, cond, List, Option, Some, None, refl, sym, ap, subst, arith}
-use Rattle.kv_device.specs.declared.fault.DeviceFault.TheVariants.{Memory}
 use Rattle.kv_nand.specs.declared.fault.FlashFault.{FlashFault}
-use Rattle.kv_nand.specs.declared.fault.FlashFault.TheVariants as flash_faults
 use Rattle.kv_nand.specs.Flash.{Flash, IsSound}
 use Rattle.kv_nand.specs.Working.{Stops}
 use Rattle.kv_device.specs.Machine.{Machine}
@@ -12,13 +10,13 @@ use Rattle.kssd_image.specs.Stages.{objects_in}
 use Rattle.kssd_tx.specs.Refusals.{set_refusal}
 use Rattle.kssd_index.proofs.Anchored.{aged_still}
 use Rattle.kssd_machine.specs.Names.{are_rising}
-use Rattle.kssd_machine.specs.Machines.{resting, no_lists}
-use Rattle.kssd_machine.proofs.Standing.{downs}
+use Rattle.kssd_machine.specs.Machines.{resting}
 use Rattle.kssd_machine.specs.Faults.{device_fault}
 use Rattle.kssd_machine.specs.Calling.{value_refusal}
 use Rattle.kssd_machine.proofs.Falling.{working}
 use Rattle.kssd_machine.proofs.Transacting.{setting_refused, setting_fallen}
 use Rattle.kssd_mounted.specs.declared.mounted.Mounted.{Mounted}
+use Rattle.kssd_mounted.proofs.Staying.{device_fault_down}
 use Rattle.kssd_mounted.specs.Standing.{Stands, Leaves, mounted_age, machine_at, machine_after, takes_down}
 
 -- a device that stands leaves what it stands on
@@ -37,25 +35,14 @@ refused_is m flash tx key value fault rising up is =
     (sym (ap (λ (b : Bool). cond b (resting flash) (machine_at flash m)) up))
     (setting_refused flash m.changes tx key value fault rising is)
 
--- a fault of the flash takes a device down
-pub goes_down : (fault : FlashFault) → takes_down (device_fault fault) ≡ true
-goes_down flash_faults.Off = refl
-goes_down flash_faults.Failed = refl
-goes_down flash_faults.Memory = refl
-
--- so it is down where it stopped by one, with the objects that it had
+-- where a call stopped by a fault of the flash, the device is down with the objects that it had
 pub fallen_is : (m n : Mounted) (old new : Flash) (tx : ℕ) (key value : List ℕ) (fault : FlashFault) (ops reads : ℕ) (first : Option DeviceFault) → Stands m old → first ≡ value_refusal m.changes tx key value (set_refusal m.changes tx key) → first ≡ None → IsSound new → Stops old fault new ops reads → objects_in new.image ≡ objects_in old.image
     → SetFault (machine_at old m) tx key value (device_fault fault) (machine_after (device_fault fault) new n)
 fallen_is m n old new tx key value fault ops reads first stands is none sound stops same =
     subst (λ (after : Machine). SetFault (machine_at old m) tx key value (device_fault fault) after)
-    (sym (ap (λ (b : Bool). cond b (resting new) (machine_at new n)) (goes_down fault)))
+    (sym (ap (λ (b : Bool). cond b (resting new) (machine_at new n)) (device_fault_down fault)))
     (setting_fallen old m.changes tx key value (device_fault fault) (resting new) stands.rising (sym is ∙ none) (working old new m.changes fault ops reads sound stands.powered stops same))
 
 -- a bound on numbers may be higher
 pub leaves_within : (old new : Flash) (age limit : ℕ) → Leaves old age new → age ≤ limit → Leaves old limit new
 leaves_within old new age limit leaves below = record { blocks = leaves.blocks; whole = leaves.whole; age_is = let is = leaves.age_is in omega arith }
-
--- or where memory ran out
-pub memory_is : (m : Mounted) (flash : Flash) (tx : ℕ) (key value : List ℕ) → are_rising m.changes ≡ true → value_refusal m.changes tx key value (set_refusal m.changes tx key) ≡ None
-    → SetFault (machine_at flash m) tx key value Memory (resting flash)
-memory_is m flash tx key value rising allowed = setting_fallen flash m.changes tx key value Memory (resting flash) rising allowed (downs flash true m.changes no_lists)

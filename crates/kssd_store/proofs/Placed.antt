@@ -1,5 +1,5 @@
 -- A device after a value was put in a page, and a change names that.
-use Rattle.std.proofs.Common.{◌≡◌, ◌≢◌, ◌⊎◌, ◌∙◌, ℕ, ◌≤◌, ◌/◌, Bool, true, false, cond, ◌||◌, eqb, List, [], ◌∷◌, length, None, inl, inr, refl, sym, ap, subst}
+use Rattle.std.proofs.Common.{◌≡◌, ◌≢◌, ◌⊎◌, ◌∙◌, ℕ, ◌≤◌, ◌/◌, Bool, true, false, ◌||◌, eqb, List, [], ◌∷◌, length, None, refl, sym, ap, subst, Some, length-set}
 use Rattle.std.proofs.lemmas.Bool.{eqb-true}
 use Rattle.kv_nand.specs.Flash.{Flash, Erased}
 use Rattle.kv_nand.specs.Working.{Works}
@@ -11,9 +11,9 @@ use Rattle.kssd_entry.specs.declared.entry.Entry.TheVariants.{At}
 use Rattle.kssd_image.specs.ValuePages.{HoldsValue}
 use Rattle.kssd_image.specs.Stages.{shown_in}
 use Rattle.kssd_image.specs.Whole.{pages_named, IsWhole}
-use Rattle.kssd_tx.specs.Lists.{Transactions, change_of}
-use Rattle.kssd_values.specs.declared.mark.Mark.{Mark}
-use Rattle.kssd_values.specs.declared.mark.Mark.TheVariants.{Dead}
+use Rattle.kssd_tx.specs.Lists.{Transactions, change_of, changes_of}
+use Rattle.kssd_model.specs.Rising.{put_entry}
+use Rattle.kssd_values.specs.declared.mark.Mark.TheVariants.{Pending, Dead}
 use Rattle.kssd_values.specs.declared.values.Values.{Values}
 use Rattle.kssd_values.specs.Places.{IsValueBlock}
 use Rattle.kssd_values.specs.Blocks.{mark_at, free_room}
@@ -21,24 +21,22 @@ use Rattle.kssd_values.specs.Pages.{Fills, KeepsPages}
 use Rattle.kssd_values.specs.Changes.{SamePlaces, Puts}
 use Rattle.kssd_index.specs.declared.index.Index.{Index}
 use Rattle.kssd_index.specs.Standing.{IsIndex}
-use Rattle.kssd_reclaim.specs.Sources.{is_visible}
 use Rattle.kssd_machine.specs.Names.{are_rising, are_valued}
 use Rattle.kssd_machine.specs.Machines.{machine_of}
-use Rattle.kssd_machine.specs.Marked.{is_pending, AreMarked, is_named, WereDead}
+use Rattle.kssd_machine.specs.Marked.{AreMarked, is_named, IsRemarked, WereDead}
+use Rattle.kssd_machine.specs.Sizes.{listed}
 use Rattle.kssd_machine.specs.Calling.{with_entry}
 use Rattle.kssd_machine.proofs.Standing.{stays, works_same}
 use Rattle.kssd_machine.proofs.Transacting.{sets_page, rising_with}
-use Rattle.kssd_machine.proofs.Keeping.{fresh_is_dead}
 use Rattle.kssd_machine.proofs.Remaining.{block_after_put, block_after_mark}
 use Rattle.kssd_machine.proofs.Tagging.{sets}
 use Rattle.kssd_machine.proofs.Valuing.{holds, valued_with}
 use Rattle.kssd_mounted.specs.declared.mounted.Mounted.{Mounted}
 use Rattle.kssd_mounted.specs.Standing.{Stands, machine_at}
-use Rattle.kssd_store.specs.Setting.{page_of, marks_after}
 use Rattle.kssd_store.proofs.Allowed.{may_set}
 use Rattle.kssd_store.proofs.Kept.{image_kept, objects_kept, pending_kept, valued_kept}
 use Rattle.kssd_store.proofs.Indexed.{index_kept}
-use Rattle.kssd_store.proofs.Renaming.{older_lives, remarks_are}
+use Rattle.kssd_store.proofs.Renaming.{put_on_dead, marks_put}
 
 -- a value was put in a page, and that was named in a change in place of the older page of its key
 pub record IsPlaced (m n : Mounted) (old new : Flash) (v : Values) (tx page : ℕ) (key value : List ℕ) : Type 0 where
@@ -52,7 +50,7 @@ pub record IsPlaced (m n : Mounted) (old new : Flash) (v : Values) (tx page : �
   pub keeps : KeepsPages m.values old.image new.image
   pub works : Works old new 2 0
   pub changes : n.changes ≡ with_entry m.changes tx (At key page (length value))
-  pub marks : (q : ℕ) → mark_at n.values q ≡ marks_after (mark_at v) page (page_of (change_of m.changes tx key)) q
+  pub marks : IsRemarked v (listed (change_of m.changes tx key)) (At key page (length value) ∷ []) Pending n.values
   pub places : SamePlaces v n.values
   pub rest : n ≡ record m { values = n.values; changes = n.changes }
 
@@ -68,18 +66,6 @@ set_done m n old new v tx page key value placed =
 
 -- ---- the marks
 
-pub page_is_dead : (m n : Mounted) (old new : Flash) (v : Values) (tx page : ℕ) (key value : List ℕ) → IsPlaced m n old new v tx page key value → mark_at v page ≡ Dead
-page_is_dead m n old new v tx page key value placed = placed.puts.marks page ∙ elim placed.free [
-  | inl dead ↦ dead
-  | inr erased ↦ fresh_is_dead old.blocks m.values old.image (shown_in old.image) m.changes page placed.stood.marked placed.stood.whole.values.pages placed.stood.valued erased
-]
-
-marks_put : (m n : Mounted) (old new : Flash) (v : Values) (tx page : ℕ) (key value : List ℕ) → IsPlaced m n old new v tx page key value → AreMarked v (shown_in old.image) m.changes
-marks_put m n old new v tx page key value placed = record {
-  shown = λ q. placed.stood.marked.shown q ∙ ap {B = ℕ} (λ (k : Mark). cond (is_visible k) 1 0) (sym (placed.puts.marks q));
-  pending = λ q. placed.stood.marked.pending q ∙ ap {B = ℕ} (λ (k : Mark). cond (is_pending k) 1 0) (sym (placed.puts.marks q));
-}
-
 named_alone : (page size q : ℕ) (key : List ℕ) → is_named q (At key page size ∷ []) ≡ true → page ≡ q
 named_alone page size q key is = by (eqb page q) refl is
   where
@@ -91,11 +77,11 @@ pub marks_named : (m n : Mounted) (old new : Flash) (v : Values) (tx page : ℕ)
     → AreMarked n.values (shown_in old.image) (with_entry m.changes tx (At key page (length value)))
 marks_named m n old new v tx page key value placed =
     let may = may_set m old tx key value placed.stood placed.allowed in
-    let dead = page_is_dead m n old new v tx page key value placed in
-    let marked = marks_put m n old new v tx page key value placed in
+    let dead = put_on_dead m old v page placed.stood placed.puts.marks placed.free in
+    let marked = marks_put m old v placed.stood placed.puts.marks in
     let were : WereDead v (At key page (length value) ∷ []) = λ q is. subst (λ (p : ℕ). mark_at v p ≡ Dead) (named_alone page (length value) q key is) dead in
     sets v n.values (shown_in old.image) m.changes tx (At key page (length value)) placed.stood.rising may.open_is marked were
-    (λ q. placed.marks q ∙ remarks_are (change_of m.changes tx key) page (length value) q key (mark_at v) (older_lives v (shown_in old.image) m.changes tx page key marked dead))
+    placed.marks
 
 -- ---- the device
 
@@ -116,6 +102,7 @@ stands_after m n old new v tx page key value placed =
       device = placed.places.device ∙ placed.puts.device ∙ placed.stood.device ∙ sym blocks;
       fills = placed.places.fills new.image placed.fills;
       idle = placed.places.target.has ∙ placed.puts.target.has ∙ placed.stood.idle;
+      four = ap (λ (lists : Transactions). length lists) placed.changes ∙ length-set m.changes tx (Some (put_entry (changes_of m.changes tx) (At key page (length value)))) ∙ placed.stood.four;
       rising = subst (λ (lists : Transactions). are_rising lists ≡ true) (sym placed.changes) (rising_with m.changes tx (At key page (length value)) placed.stood.rising);
       valued = subst (λ (lists : Transactions). are_valued new.blocks new.image lists ≡ true) (sym placed.changes) (subst (λ (b : ℕ). are_valued b new.image (with_entry m.changes tx (At key page (length value))) ≡ true) (sym blocks) valued);
       marked = subst (λ (lists : Transactions). AreMarked n.values (shown_in new.image) lists) (sym placed.changes)

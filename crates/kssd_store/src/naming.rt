@@ -1,17 +1,21 @@
 // The change that names a value's page.
-ghost use Rattle.std.specs.Prelude.{◌≡◌, ◌≢◌, ◌/◌, ℕ, true, None, Some, OnOk};
+ghost use Rattle.std.specs.Prelude.{◌≡◌, ◌≢◌, ◌/◌, ◌∷◌, [], ℕ, false, None, Some, OnOk, option_copied};
 ghost use Rattle.kssd_entry.specs.declared.entry.Entry.TheVariants.{At};
 ghost use Rattle.kssd_tx.specs.Lists.{change_of};
 ghost use Rattle.kssd_tx.specs.Refusals.{set_refusal};
+ghost use Rattle.kssd_values.specs.declared.mark.Mark.TheVariants.{Pending, Dead};
 ghost use Rattle.kssd_values.specs.Places.{IsValueBlock};
 ghost use Rattle.kssd_values.specs.Blocks.{Free, device_of, mark_at, state_at};
 ghost use Rattle.kssd_values.specs.Changes.{SamePlaces};
 ghost use Rattle.kssd_machine.specs.Calling.{with_entry};
-ghost use Rattle.kssd_store.specs.Setting.{page_of, marks_after};
+ghost use Rattle.kssd_machine.specs.Sizes.{listed};
+ghost use Rattle.kssd_machine.specs.Marked.{is_named, IsRemarked};
+ghost use Rattle.kssd_mounted.specs.Marking.{MayMark, IsPageOf};
+ghost use Rattle.kssd_store.specs.Setting.{marks_after};
 
 use kssd_entry::{Entry, PageLength};
 use kssd_mounted::Mounted;
-use kssd_tx::{TxId, TxTable};
+use kssd_tx::TxId;
 use kssd_values::{Mark, Values};
 use kv_base::{Key, Memory};
 use std::alloc::Global;
@@ -29,13 +33,14 @@ pub fn name_page(
     requires allowed { set_refusal mounted.old.changes tx.0 key ≡ None }
     requires region { IsValueBlock (device_of mounted.old.values) (page / 32) }
     requires taken { state_at mounted.old.values (page / 32) ≢ Free }
-    requires older { (at : ℕ) → page_of (change_of mounted.old.changes tx.0 key) ≡ Some at → IsValueBlock (device_of mounted.old.values) (at / 32) }
+    requires older { MayMark mounted.old.values (listed (change_of mounted.old.changes tx.0 key)) Dead }
+    requires apart { is_named page (listed (change_of mounted.old.changes tx.0 key)) ≡ false }
     ensures changes { OnOk result (mounted.new.changes ≡ with_entry mounted.old.changes tx.0 (At key page length)) }
-    ensures marks { OnOk result ((q : ℕ) → mark_at mounted.new.values q ≡ marks_after (mark_at mounted.old.values) page (page_of (change_of mounted.old.changes tx.0 key)) q) }
+    ensures marks { OnOk result (IsRemarked mounted.old.values (listed (change_of mounted.old.changes tx.0 key)) (At key page length ∷ []) Pending mounted.new.values) }
     ensures places { OnOk result (SamePlaces mounted.old.values mounted.new.values) }
     ensures rest { OnOk result (mounted.new ≡ record mounted.old { values = mounted.new.values; changes = mounted.new.changes }) }
 {
-    let older = page_of_change(&mounted.changes, tx, &key);
+    let older = page_of(mounted.changes.find(tx, &key));
     match mounted
         .changes
         .set(alloc, tx, Entry::At { key, page, length })
@@ -48,14 +53,13 @@ pub fn name_page(
     }
 }
 
-// The page that the change of a key names.
-fn page_of_change(changes: &TxTable, tx: TxId, key: &Key) -> Option<u32>
-    ensures { result ≡ page_of (change_of changes.now tx.0 key.now) }
+// The page that an entry names, where there is one and it names a page.
+fn page_of(entry: Option<&Entry>) -> Option<u32>
+    ensures { IsPageOf (option_copied entry.entry) result }
 {
-    match changes.find(tx, key) {
+    match entry {
         Some(Entry::At { page, .. }) => Some(*page),
-        Some(_) => None,
-        None => None,
+        _ => None,
     }
 }
 

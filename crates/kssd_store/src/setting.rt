@@ -2,16 +2,15 @@
 ghost use Rattle.std.specs.Prelude.{◌≡◌, ◌≤◌, ◌+◌, ◌^◌, false, length, OnOk, IfErr};
 ghost use Rattle.kv_device.specs.Calls.{SetDone, SetFault};
 ghost use Rattle.kssd_mounted.specs.Standing.{Stands, Leaves, mounted_age, machine_at, machine_after, takes_down};
-ghost use Rattle.kssd_machine.specs.Faults as faults;
 ghost use Rattle.kssd_store.specs.Setting.{set_rise, most_set_cost};
 
 use crate::large::set_large;
 use crate::refusing::refusal;
-use kssd_mounted::Mounted;
+use kssd_mounted::{Mounted, device_fault};
 use kssd_tx::TxId;
 use kv_base::{Key, Value};
 use kv_device::DeviceFault;
-use kv_nand::{FlashFault, Nand};
+use kv_nand::Nand;
 use std::alloc::Global;
 
 /// Sets the value of a key in a transaction. A value of at most 128 bytes is kept with the change and
@@ -46,21 +45,10 @@ pub fn set<N: Nand>(
         return Err(fault);
     }
     if !value.is_large() {
-        return Err(DeviceFault::Memory);
+        return mounted.set_inline(alloc, nand, tx, key, value);
     }
     match set_large(alloc, nand, mounted, tx, key, value) {
         Ok(()) => Ok(()),
         Err(fault) => Err(device_fault(fault)),
-    }
-}
-
-// The device's fault where a call over its flash has one.
-fn device_fault(fault: FlashFault) -> DeviceFault
-    ensures { result ≡ faults.device_fault fault }
-{
-    match fault {
-        FlashFault::Off => DeviceFault::Off,
-        FlashFault::Failed => DeviceFault::Failed,
-        FlashFault::Memory => DeviceFault::Memory,
     }
 }

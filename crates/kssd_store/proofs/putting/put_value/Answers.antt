@@ -1,16 +1,19 @@
-use Rattle.std.proofs.Common.{◌≡◌, ◌∙◌, ℕ, List, length, ap, arith}
+use Rattle.std.proofs.Common.{◌≡◌, ◌∷◌, [], ◌∙◌, ℕ, List, length, ap, arith}
 use Rattle.kv_nand.proofs.Chaining.{works_blocks, stops_blocks}
 use Rattle.kssd_entry.specs.declared.entry.Entry.TheVariants.{At}
 use Rattle.kssd_tx.specs.Lists.{change_of}
 use Rattle.kssd_tx.specs.Refusals.{set_refusal}
 use Rattle.kssd_values.specs.Blocks.{mark_at}
+use Rattle.kssd_image.specs.Stages.{shown_in}
+use Rattle.kssd_values.specs.declared.mark.Mark.TheVariants.{Pending, Dead}
 use Rattle.kssd_machine.specs.Calling.{with_entry}
+use Rattle.kssd_machine.specs.Sizes.{listed}
+use Rattle.kssd_machine.specs.Marked.{remarked}
 use Rattle.kssd_mounted.specs.Standing.{mounted_age}
-use Rattle.kssd_store.specs.Setting.{page_of, marks_after}
 use Rattle.kssd_store.proofs.Leaving.{still_leaves}
 use Rattle.kssd_store.proofs.Allowed.{may_set}
 use Rattle.kssd_store.proofs.Kept.{objects_kept, leaves_kept}
-use Rattle.kssd_store.proofs.Renaming.{older_region}
+use Rattle.kssd_store.proofs.Renaming.{older_may_die, older_lives, put_on_dead, marks_put}
 use Rattle.kssd_store.proofs.Placed.{IsPlaced, set_done, stands_after}
 use Rattle.kssd_store.proofs.putting.put_value.Given as given
 use Rattle.kssd_store.proofs.putting.put_value.Goals as goal
@@ -33,7 +36,16 @@ name_page-requires-clause-allowed g c =
     ap (set_refusal c.args.mounted.now.changes c.args.tx.0) c.in_ok-named.ensures ∙ may.room
 
 pub name_page-requires-clause-older : goal.name_page-requires-clause-older
-name_page-requires-clause-older g c = λ at is. older_region c.args.mounted.now (g.N.Nand.flash c.args.nand.now) c.put.new.self c.args.tx.0 at c.in_ok-named.named c.requires.stands c.in_ok-page.ensures.ok.device is
+name_page-requires-clause-older g c = older_may_die c.args.mounted.now (g.N.Nand.flash c.args.nand.now) c.put.new.self c.args.tx.0 c.in_ok-named.named c.requires.stands c.in_ok-page.ensures.ok.device
+
+pub name_page-requires-clause-apart : goal.name_page-requires-clause-apart
+name_page-requires-clause-apart g c =
+    let m = c.args.mounted.now in
+    let old = g.N.Nand.flash c.args.nand.now in
+    let put = c.in_ok-page.ensures in
+    older_lives c.put.new.self (shown_in old.image) m.changes c.args.tx.0 c.in_ok-page.page c.in_ok-named.named
+    (marks_put m old c.put.new.self c.requires.stands put.ok.marks)
+    (put_on_dead m old c.put.new.self c.in_ok-page.page c.requires.stands put.ok.marks put.free)
 
 pub returns-in_err-name_page-clause-objects : goal.returns-in_err-name_page-clause-objects
 returns-in_err-name_page-clause-objects g c = objects_kept c.args.mounted.now (g.N.Nand.flash c.args.nand.now) (g.N.Nand.flash c.put.new.nand) c.requires.stands c.in_ok-page.ensures.keeps
@@ -62,7 +74,7 @@ placed g c =
       keeps = put.keeps;
       works = put.works;
       changes = named.changes ∙ (λ i. with_entry c.args.mounted.now.changes c.args.tx.0 (At (key i) c.in_ok-page.page (size i)));
-      marks = λ q. named.marks q ∙ (λ i. marks_after (mark_at c.put.new.self) c.in_ok-page.page (page_of (change_of c.args.mounted.now.changes c.args.tx.0 (key i))) q);
+      marks = λ q. named.marks q ∙ (λ i. remarked (At (key i) c.in_ok-page.page (size i) ∷ []) Pending (remarked (listed (change_of c.args.mounted.now.changes c.args.tx.0 (key i))) Dead (mark_at c.put.new.self)) q);
       places = named.places;
       rest = named.rest;
     }

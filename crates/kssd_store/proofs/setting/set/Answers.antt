@@ -1,12 +1,13 @@
-use Rattle.std.proofs.Common.{◌≡◌, ◌+◌, ◌∙◌, Bool, true, false, cond, sym, ap, subst, arith}
+use Rattle.std.proofs.Common.{◌≡◌, ◌+◌, ◌∙◌, Bool, cond, sym, ap, subst, arith}
 use Rattle.kv_device.specs.declared.fault.DeviceFault.{DeviceFault}
 use Rattle.kv_device.specs.Calls.{SetFault}
 use Rattle.kssd_collect.specs.Costs.{most_collect_reads}
 use Rattle.kssd_machine.specs.Faults.{device_fault}
 use Rattle.kssd_machine.proofs.Transacting.{set_is}
-use Rattle.kssd_mounted.specs.Standing.{mounted_age, machine_at, machine_after, takes_down}
+use Rattle.kssd_mounted.specs.Standing.{mounted_age, machine_at, machine_after}
 use Rattle.kssd_store.specs.Setting.{set_rise, most_set_cost}
-use Rattle.kssd_store.proofs.Leaving.{still_leaves, refused_is, goes_down, fallen_is, memory_is, leaves_within}
+use Rattle.kssd_mounted.proofs.Staying.{down_is_up}
+use Rattle.kssd_store.proofs.Leaving.{still_leaves, refused_is, fallen_is, leaves_within}
 use Rattle.kssd_store.proofs.setting.set.Goals as goal
 
 pub returns-in-Some-clause-err : goal.returns-in-Some-clause-err
@@ -17,9 +18,6 @@ returns-in-Some-clause-leaves g c = still_leaves c.args.mounted.now (g.N.Nand.fl
 
 pub returns-then-not-is_large-clause-leaves : goal.returns-then-not-is_large-clause-leaves
 returns-then-not-is_large-clause-leaves g c = still_leaves c.args.mounted.now (g.N.Nand.flash c.args.nand.now) (mounted_age c.args.mounted.now + set_rise c.args.value.now) c.requires.stands (omega arith)
-
-pub returns-then-not-is_large-clause-err : goal.returns-then-not-is_large-clause-err
-returns-then-not-is_large-clause-err g c = memory_is c.args.mounted.now (g.N.Nand.flash c.args.nand.now) c.args.tx.0 c.args.key.now c.args.value.now c.requires.stands.rising (sym c.refusal.ensures.first ∙ c.in_default.is)
 
 pub set_large-requires-clause-allowed : goal.set_large-requires-clause-allowed
 set_large-requires-clause-allowed g c =
@@ -38,7 +36,7 @@ returns-in-Err-clause-err g c =
     subst (λ (fault : DeviceFault). SetFault (machine_at old c.args.mounted.now) c.args.tx.0 c.args.key.now c.args.value.now fault (machine_after fault new c.set_large.new.mounted)) (sym {b = device_fault c.in-Err.fault} c.device_fault.ensures) fallen
 
 pub returns-in-Err-clause-refused : goal.returns-in-Err-clause-refused
-returns-in-Err-clause-refused g c = λ up. absurd (let e : true ≡ false = sym (goes_down c.in-Err.fault) ∙ sym (ap takes_down c.device_fault.ensures) ∙ up in cc)
+returns-in-Err-clause-refused g c = down_is_up c.in-Err.fault c.device_fault.result c.device_fault.ensures
 
 pub returns-in-Err-clause-leaves : goal.returns-in-Err-clause-leaves
 returns-in-Err-clause-leaves g c =
