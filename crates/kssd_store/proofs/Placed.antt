@@ -1,16 +1,14 @@
 -- A device after a value was put in a page, and a change names that.
-use Rattle.std.proofs.Common.{◌≡◌, ◌≢◌, ◌⊎◌, ◌∙◌, ℕ, ◌≤◌, ◌/◌, Bool, true, false, ◌||◌, eqb, List, [], ◌∷◌, length, None, refl, sym, ap, subst, Some, length-set}
+use Rattle.std.proofs.Common.{◌≡◌, ◌≢◌, ◌⊎◌, ◌∙◌, ℕ, ◌/◌, Bool, true, false, ◌||◌, eqb, List, [], ◌∷◌, length, None, refl, sym, ap, subst, Some, length-set}
 use Rattle.std.proofs.lemmas.Bool.{eqb-true}
 use Rattle.kv_nand.specs.Flash.{Flash, Erased}
 use Rattle.kv_nand.specs.Working.{Works}
 use Rattle.kv_nand.proofs.Chaining.{works_blocks, works_powered}
 use Rattle.kv_device.specs.Calls.{SetDone}
 use Rattle.kv_device.specs.Calls as refusals
-use Rattle.kssd_entry.specs.declared.entry.Entry.{Entry}
 use Rattle.kssd_entry.specs.declared.entry.Entry.TheVariants.{At}
 use Rattle.kssd_image.specs.ValuePages.{HoldsValue}
 use Rattle.kssd_image.specs.Stages.{shown_in}
-use Rattle.kssd_image.specs.Whole.{pages_named, IsWhole}
 use Rattle.kssd_tx.specs.Lists.{Transactions, change_of, changes_of}
 use Rattle.kssd_model.specs.Rising.{put_entry}
 use Rattle.kssd_values.specs.declared.mark.Mark.TheVariants.{Pending, Dead}
@@ -19,8 +17,6 @@ use Rattle.kssd_values.specs.Places.{IsValueBlock}
 use Rattle.kssd_values.specs.Blocks.{mark_at, free_room}
 use Rattle.kssd_values.specs.Pages.{Fills, KeepsPages}
 use Rattle.kssd_values.specs.Changes.{SamePlaces, Puts}
-use Rattle.kssd_index.specs.declared.index.Index.{Index}
-use Rattle.kssd_index.specs.Standing.{IsIndex}
 use Rattle.kssd_machine.specs.Names.{are_rising, are_valued}
 use Rattle.kssd_machine.specs.Machines.{machine_of}
 use Rattle.kssd_machine.specs.Marked.{AreMarked, is_named, IsRemarked, WereDead}
@@ -32,13 +28,25 @@ use Rattle.kssd_machine.proofs.Remaining.{block_after_put, block_after_mark}
 use Rattle.kssd_machine.proofs.Tagging.{sets}
 use Rattle.kssd_machine.proofs.Valuing.{holds, valued_with}
 use Rattle.kssd_mounted.specs.declared.mounted.Mounted.{Mounted}
+use Rattle.kssd_mounted.specs.Beside.{OnlyValues}
+use Rattle.kssd_mounted.proofs.BesideValues.{stands_beside}
 use Rattle.kssd_mounted.specs.Standing.{Stands, machine_at}
 use Rattle.kssd_store.proofs.Allowed.{may_set}
-use Rattle.kssd_store.proofs.Kept.{image_kept, objects_kept, pending_kept, valued_kept}
-use Rattle.kssd_store.proofs.Indexed.{index_kept}
+use Rattle.kssd_store.proofs.Kept.{objects_kept, pending_kept, valued_kept, leaves_kept}
 use Rattle.kssd_store.proofs.Renaming.{put_on_dead, marks_put}
 
--- a value was put in a page, and that was named in a change in place of the older page of its key
+-- a change names the page, in place of the older page of its key
+pub record IsNamed (m n : Mounted) (v : Values) (tx page size : ℕ) (key : List ℕ) : Type 0 where
+  pub changes : n.changes ≡ with_entry m.changes tx (At key page size)
+  pub marks : IsRemarked v (listed (change_of m.changes tx key)) (At key page size ∷ []) Pending n.values
+  pub places : SamePlaces v n.values
+  pub rest : n ≡ record m { values = n.values; changes = n.changes }
+
+-- under an equal key and with an equal size
+pub named_again : (m n : Mounted) (v : Values) (tx page size other_size : ℕ) (key other_key : List ℕ) → size ≡ other_size → key ≡ other_key → IsNamed m n v tx page size key → IsNamed m n v tx page other_size other_key
+named_again m n v tx page size other_size key other_key sizes keys named = subst (λ (k : List ℕ). IsNamed m n v tx page other_size k) keys (subst (λ (s : ℕ). IsNamed m n v tx page s key) sizes named)
+
+-- a value was put in a page, and that was named in a change
 pub record IsPlaced (m n : Mounted) (old new : Flash) (v : Values) (tx page : ℕ) (key value : List ℕ) : Type 0 where
   pub stood : Stands m old
   pub allowed : refusals.set_refusal (machine_at old m) tx key value ≡ None
@@ -49,10 +57,7 @@ pub record IsPlaced (m n : Mounted) (old new : Flash) (v : Values) (tx page : �
   pub fills : Fills v new.image
   pub keeps : KeepsPages m.values old.image new.image
   pub works : Works old new 2 0
-  pub changes : n.changes ≡ with_entry m.changes tx (At key page (length value))
-  pub marks : IsRemarked v (listed (change_of m.changes tx key)) (At key page (length value) ∷ []) Pending n.values
-  pub places : SamePlaces v n.values
-  pub rest : n ≡ record m { values = n.values; changes = n.changes }
+  pub named : IsNamed m n v tx page (length value) key
 
 -- ---- the machine
 
@@ -61,7 +66,7 @@ set_done m n old new v tx page key value placed =
     let may = may_set m old tx key value placed.stood placed.allowed in
     let same : machine_of new true m.changes ≡ machine_at old m =
     stays old new true m.changes (works_same old new 2 0 placed.works) (objects_kept m old new placed.stood placed.keeps) (pending_kept m old new placed.stood placed.keeps) in
-    subst (λ (lists : Transactions). SetDone (machine_at old m) tx key value (machine_of new true lists)) (sym placed.changes)
+    subst (λ (lists : Transactions). SetDone (machine_at old m) tx key value (machine_of new true lists)) (sym placed.named.changes)
     (sets_page new m.changes tx page key value (machine_at old m) placed.stood.rising may.room may.fits placed.holds_value same)
 
 -- ---- the marks
@@ -81,33 +86,23 @@ marks_named m n old new v tx page key value placed =
     let marked = marks_put m old v placed.stood placed.puts.marks in
     let were : WereDead v (At key page (length value) ∷ []) = λ q is. subst (λ (p : ℕ). mark_at v p ≡ Dead) (named_alone page (length value) q key is) dead in
     sets v n.values (shown_in old.image) m.changes tx (At key page (length value)) placed.stood.rising may.open_is marked were
-    placed.marks
+    placed.named.marks
 
 -- ---- the device
 
 pub stands_after : (m n : Mounted) (old new : Flash) (v : Values) (tx page : ℕ) (key value : List ℕ) → IsPlaced m n old new v tx page key value → Stands n new
 stands_after m n old new v tx page key value placed =
     let blocks = works_blocks old new 2 0 placed.works in
-    let kept = image_kept m old new placed.stood placed.keeps in
-    let outside : (q : ℕ) → (IsValueBlock old.blocks (q / 32) → ⊥) → new.image q ≡ old.image q = λ q not_. placed.keeps.outside q (λ b. not_ (subst (λ (d : ℕ). IsValueBlock d (q / 32)) placed.stood.device b)) in
-    let region : IsValueBlock old.blocks (page / 32) = subst (λ (d : ℕ). IsValueBlock d (page / 32)) placed.stood.device placed.puts.value in
-    let valued : are_valued old.blocks new.image (with_entry m.changes tx (At key page (length value))) ≡ true =
-    valued_with old.blocks new.image m.changes tx (At key page (length value)) (valued_kept m old new placed.stood placed.keeps) (holds old.blocks new.image key value page region placed.holds_value) in
-    record {
-      powered = works_powered old new 2 0 placed.works ∙ placed.stood.powered;
-      least = subst (λ (b : ℕ). 256 ≤ b) (sym blocks) placed.stood.least;
-      most = subst (λ (b : ℕ). b ≤ 2048) (sym blocks) placed.stood.most;
-      whole = subst (λ (b : ℕ). IsWhole b new.image) (sym blocks) kept.keeps.whole;
-      index = subst (λ (i : Index). IsIndex i new.blocks new.image) (sym (ap (λ (x : Mounted). x.index) placed.rest)) (subst (λ (b : ℕ). IsIndex m.index b new.image) (sym blocks) (index_kept m.index old.blocks old.image new.image placed.stood.index outside));
-      device = placed.places.device ∙ placed.puts.device ∙ placed.stood.device ∙ sym blocks;
-      fills = placed.places.fills new.image placed.fills;
-      idle = placed.places.target.has ∙ placed.puts.target.has ∙ placed.stood.idle;
-      four = ap (λ (lists : Transactions). length lists) placed.changes ∙ length-set m.changes tx (Some (put_entry (changes_of m.changes tx) (At key page (length value)))) ∙ placed.stood.four;
-      rising = subst (λ (lists : Transactions). are_rising lists ≡ true) (sym placed.changes) (rising_with m.changes tx (At key page (length value)) placed.stood.rising);
-      valued = subst (λ (lists : Transactions). are_valued new.blocks new.image lists ≡ true) (sym placed.changes) (subst (λ (b : ℕ). are_valued b new.image (with_entry m.changes tx (At key page (length value))) ≡ true) (sym blocks) valued);
-      marked = subst (λ (lists : Transactions). AreMarked n.values (shown_in new.image) lists) (sym placed.changes)
-          (subst (λ (shown : List Entry). AreMarked n.values shown (with_entry m.changes tx (At key page (length value)))) (sym kept.keeps.shown) (marks_named m n old new v tx page key value placed));
-      block = block_after_mark v n.values placed.places (block_after_put m.values v page placed.puts placed.room placed.stood.block);
-      keys = ap (λ (x : Mounted). x.keys) placed.rest ∙ placed.stood.keys ∙ ap (λ (shown : List Entry). length shown) (sym kept.keeps.shown);
-      pages = ap (λ (x : Mounted). x.pages) placed.rest ∙ placed.stood.pages ∙ ap (λ (shown : List Entry). length (pages_named shown)) (sym kept.keeps.shown);
-    }
+    let entry = At key page (length value) in
+    let only : OnlyValues old.blocks old.image new.image = λ q not_. placed.keeps.outside q (λ b. not_ (subst (λ (d : ℕ). IsValueBlock d (q / 32)) placed.stood.device b)) in
+    let region = subst (λ (d : ℕ). IsValueBlock d (page / 32)) (placed.stood.device ∙ sym blocks) placed.puts.value in
+    let kept : are_valued new.blocks new.image m.changes ≡ true = subst (λ (b : ℕ). are_valued b new.image m.changes ≡ true) (sym blocks) (valued_kept m old new placed.stood placed.keeps) in
+    stands_beside m n old new placed.stood only (works_powered old new 2 0 placed.works ∙ placed.stood.powered) blocks
+    (leaves_kept m old new placed.stood placed.keeps blocks).whole
+    (ap (λ (x : Mounted). x.index) placed.named.rest) (ap (λ (x : Mounted). x.keys) placed.named.rest) (ap (λ (x : Mounted). x.pages) placed.named.rest)
+    (placed.named.places.device ∙ placed.puts.device) (placed.named.places.fills new.image placed.fills) (placed.named.places.target.has ∙ placed.puts.target.has ∙ placed.stood.idle)
+    (block_after_mark v n.values placed.named.places (block_after_put m.values v page placed.puts placed.room placed.stood.block))
+    (ap (λ (lists : Transactions). length lists) placed.named.changes ∙ length-set m.changes tx (Some (put_entry (changes_of m.changes tx) entry)) ∙ placed.stood.four)
+    (subst (λ (lists : Transactions). are_rising lists ≡ true) (sym placed.named.changes) (rising_with m.changes tx entry placed.stood.rising))
+    (subst (λ (lists : Transactions). are_valued new.blocks new.image lists ≡ true) (sym placed.named.changes) (valued_with new.blocks new.image m.changes tx entry kept (holds new.blocks new.image key value page region placed.holds_value)))
+    (subst (λ (lists : Transactions). AreMarked n.values (shown_in old.image) lists) (sym placed.named.changes) (marks_named m n old new v tx page key value placed))

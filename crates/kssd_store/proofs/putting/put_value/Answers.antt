@@ -1,20 +1,13 @@
-use Rattle.std.proofs.Common.{◌≡◌, ◌∷◌, [], ◌∙◌, ℕ, List, length, ap, arith}
+use Rattle.std.proofs.Common.{◌≡◌, ◌∙◌, ℕ, List, length, ap, arith}
 use Rattle.kv_nand.proofs.Chaining.{works_blocks, stops_blocks}
-use Rattle.kssd_entry.specs.declared.entry.Entry.TheVariants.{At}
-use Rattle.kssd_tx.specs.Lists.{change_of}
 use Rattle.kssd_tx.specs.Refusals.{set_refusal}
-use Rattle.kssd_values.specs.Blocks.{mark_at}
 use Rattle.kssd_image.specs.Stages.{shown_in}
-use Rattle.kssd_values.specs.declared.mark.Mark.TheVariants.{Pending, Dead}
-use Rattle.kssd_machine.specs.Calling.{with_entry}
-use Rattle.kssd_machine.specs.Sizes.{listed}
-use Rattle.kssd_machine.specs.Marked.{remarked}
 use Rattle.kssd_mounted.specs.Standing.{mounted_age}
 use Rattle.kssd_store.proofs.Leaving.{still_leaves}
 use Rattle.kssd_store.proofs.Allowed.{may_set}
 use Rattle.kssd_store.proofs.Kept.{objects_kept, leaves_kept}
 use Rattle.kssd_store.proofs.Renaming.{older_may_die, older_lives, put_on_dead, marks_put}
-use Rattle.kssd_store.proofs.Placed.{IsPlaced, set_done, stands_after}
+use Rattle.kssd_store.proofs.Placed.{IsPlaced, named_again, set_done, stands_after}
 use Rattle.kssd_store.proofs.putting.put_value.Given as given
 use Rattle.kssd_store.proofs.putting.put_value.Goals as goal
 
@@ -59,7 +52,6 @@ returns-in_err-name_page-clause-leaves g c =
 placed : (g : given.Over) (c : goal.In_ok-name_page g)
     → IsPlaced c.args.mounted.now c.name_page.new.mounted (g.N.Nand.flash c.args.nand.now) (g.N.Nand.flash c.put.new.nand) c.put.new.self c.args.tx.0 c.in_ok-page.page c.args.key.now c.args.value.now
 placed g c =
-    let key = c.in_ok-named.ensures in
     let size : c.new-length.result ≡ length c.args.value.now = c.new-length.ensures ∙ ap (λ (bytes : List ℕ). length bytes) c.bytes.ensures.value in
     let put = c.in_ok-page.ensures in
     let named = c.in_ok-name_page.ensures in
@@ -73,10 +65,8 @@ placed g c =
       fills = put.fills;
       keeps = put.keeps;
       works = put.works;
-      changes = named.changes ∙ (λ i. with_entry c.args.mounted.now.changes c.args.tx.0 (At (key i) c.in_ok-page.page (size i)));
-      marks = λ q. named.marks q ∙ (λ i. remarked (At (key i) c.in_ok-page.page (size i) ∷ []) Pending (remarked (listed (change_of c.args.mounted.now.changes c.args.tx.0 (key i))) Dead (mark_at c.put.new.self)) q);
-      places = named.places;
-      rest = named.rest;
+      named = named_again c.args.mounted.now c.name_page.new.mounted c.put.new.self c.args.tx.0 c.in_ok-page.page c.new-length.result (length c.args.value.now) c.in_ok-named.named c.args.key.now size c.in_ok-named.ensures
+          (record { changes = named.changes; marks = named.marks; places = named.places; rest = named.rest });
     }
 
 pub returns-clause-done : goal.returns-clause-done
