@@ -4,8 +4,8 @@ ghost use Rattle.kv_base.specs.Counts.{one_more};
 ghost use Rattle.kv_device.specs.Calls.{GetDone, IterateDone, ReadFault};
 
 use crate::Mounted;
-use crate::fault::{device_fault, tx_fault};
-use kssd_tx::{TxFault, TxId};
+use crate::fault::device_fault;
+use kssd_tx::TxId;
 use kv_base::{Key, Pairs, Value};
 use kv_device::DeviceFault;
 use kv_nand::Nand;
