@@ -5,3 +5,4 @@ pub mod Beginning
 pub mod Merely
 pub mod Starts
 pub mod Installable
+pub mod Later

@@ -5,3 +5,4 @@ pub mod Feeding
 pub mod Job
 pub mod Laws
 pub mod Steps
+pub mod Finishing

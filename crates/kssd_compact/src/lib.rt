@@ -2,6 +2,7 @@
 #![tactic(auto)]
 
 mod feeding;
+mod finishing;
 mod job;
 mod laws;
 mod source;

@@ -1,7 +1,7 @@
 -- Levels with a base alone.
-use Rattle.std.proofs.Common.{true, ◌≡◌, ℕ, ◌<◌, ◌≤◌, List, [], ◌∷◌, ◌++◌, length, refl, sym, subst, arith, append-nil}
+use Rattle.std.proofs.Common.{◌≡◌, ℕ, ◌<◌, List, [], ◌∷◌, sym, subst, arith, append-nil}
 use Rattle.std.specs.Prelude.{nat_eq}
-use Rattle.std.specs.List.{All, IsDistinct}
+use Rattle.std.specs.List.{IsDistinct}
 use Rattle.std.proofs.lemmas.List.Elements.{All-nil, All-cons}
 use Rattle.kv_nand.specs.Flash.{Image}
 use Rattle.kssd_image.specs.AnchorForm.{IsRunForm}

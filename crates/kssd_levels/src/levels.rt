@@ -87,8 +87,8 @@ impl Levels {
         Ok(found)
     }
 
-    // Equal runs, in the anchor's order.
-    fn copies(&self, alloc: Global) -> Result<RunList, Memory>
+    /// Equal runs, in the anchor's order: level 0 from the newest, level 1 and the base.
+    pub fn copies(&self, alloc: Global) -> Result<RunList, Memory>
         ensures copies { IfOk result (λ runs. runs ≡ all_runs self.now) }
         ensures few { IfOk result (λ runs. length runs ≤ 6) }
     {

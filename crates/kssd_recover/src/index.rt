@@ -4,7 +4,7 @@ ghost use Rattle.kssd_image.specs.AnchorForm.{IsAnchorForm};
 ghost use Rattle.kssd_image.specs.Damages.{IsDamage};
 ghost use Rattle.kssd_image.specs.Stages.{without_marks};
 ghost use Rattle.kssd_image.specs.Whole.{Sound};
-ghost use Rattle.kssd_levels.specs.Levels.{AreOpened, StandLevels, all_runs, levels_map};
+ghost use Rattle.kssd_levels.specs.Levels.{AreOpened, StandLevels, levels_map};
 ghost use Rattle.kssd_model.specs.Anchors.{newest_in};
 ghost use Rattle.kssd_model.specs.OnlyReading.{OnlyReads, StopsReading};
 ghost use Rattle.kssd_model.specs.Rising.{merged};
@@ -16,11 +16,11 @@ use crate::log::{LogContents, read_log};
 use crate::walking::{Visible, walk};
 use kssd_anchor::newest;
 use kssd_layout::Layout;
-use kssd_levels::{Levels, RunList, Stream};
+use kssd_levels::{Levels, Stream};
 use kssd_model::{Anchor, Found, copies_of};
 use kssd_run::RunFault;
 use kssd_table::Frozen;
-use kv_base::{Damage, Memory};
+use kv_base::Damage;
 use kv_nand::{FlashFault, MountFault, Nand};
 use std::alloc::Global;
 
@@ -86,17 +86,6 @@ pub fn read_index<N: Nand>(
     Ok(Index { found, levels, log })
 }
 
-// Copies of the runs, in the anchor's order.
-fn runs_of(alloc: Global, levels: &Levels) -> Result<RunList, Memory>
-    ensures { IfOk result (λ runs. runs ≡ all_runs levels.now) }
-{
-    let mut runs = RunList::new(alloc);
-    runs.append_copies(alloc, levels.level(0))?;
-    runs.append_copies(alloc, levels.level(1))?;
-    runs.append_copies(alloc, levels.level(2))?;
-    Ok(runs)
-}
-
 /// Counts the visible entries of a log over levels, of which there are fewer than 2^32 - 1. Each
 /// page of the runs is read once.
 pub fn visible_in<N: Nand>(
@@ -111,7 +100,7 @@ pub fn visible_in<N: Nand>(
     ensures reads { OnOk result (OnlyReads (N.flash nand.old) (N.flash nand.new)) }
     ensures err { IfErr result (λ fault. StopsReading (N.flash nand.old) fault (N.flash nand.new)) }
 {
-    let runs = runs_of(alloc, levels)?;
+    let runs = levels.copies(alloc)?;
     let entries = copies_of(alloc, log.entries())?;
     let source = Stream::open(alloc, nand, entries, runs, None)?;
     walk(alloc, nand, source)

@@ -1,4 +1,4 @@
-use Rattle.kssd_levels.proofs.OneRun.{alone_at, stand_written}
+use Rattle.kssd_levels.proofs.OneRun.{alone_at}
 use Rattle.kssd_levels.proofs.levels.Levels.of_base.Goals as goal
 
 pub invariant_of-result : goal.invariant_of-result
