@@ -45,4 +45,4 @@ before_still page anchor blocks image entries h = record {
 }
 
 pub aged_still : (index : Index) (blocks : ℕ) (image : Image) → IsIndex index blocks image → age_in image ≤ index_age index
-aged_still index blocks image h = subst (λ (n : ℕ). n ≤ index_age index) (sym (age_is index.page index.anchor image h.anchored.newest)) h.numbers
+aged_still index blocks image h = subst (λ (n : ℕ). n ≤ index_age index) (sym (age_is index.root.page index.root.anchor image h.root.anchored.newest)) h.numbers

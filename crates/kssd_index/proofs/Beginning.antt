@@ -2,7 +2,7 @@
 use Rattle.std.proofs.Common.{true, ◌≡◌, ◌∙◌, ℕ, ◌+◌, ◌-◌, ◌*◌, ◌/◌, ◌<◌, ◌≤◌, ◌^◌, max, List, [], ◌∷◌, length, refl, sym, ap, subst, arith}
 use Rattle.std.specs.List.{All}
 use Rattle.std.proofs.lemmas.List.Elements.{All-head, All-tail}
-use Rattle.kv_nand.specs.Flash.{Image, Erased}
+use Rattle.kv_nand.specs.Flash.{Image}
 use Rattle.kssd_entry.specs.declared.entry.Entry.{Entry}
 use Rattle.kssd_model.specs.declared.anchor.Anchor.{Anchor}
 use Rattle.kssd_model.specs.Groups.{Walk, HasLog, seen, Ends, stop, log_in, rest_from, turn_count}
@@ -15,13 +15,10 @@ use Rattle.kssd_log.specs.Ring.{begun}
 use Rattle.kssd_log.specs.declared.place.Place.{Place}
 use Rattle.kssd_index.specs.declared.parts.IndexParts.{IndexParts}
 use Rattle.kssd_index.specs.Standing.{EndsAt, table_of, IsIndex, AreParts, IsFit, is_clean}
+use Rattle.kssd_index.specs.Following.{IsCleanBlock}
 use Rattle.kssd_index.proofs.Anchored.{age_is}
 
--- all pages of the block are Erased
-abbrev pub IsClean : ℕ → Image → Type 0
-IsClean block image = (q : ℕ) → q / 32 ≡ block → image q ≡ Erased
-
-empty_log : (image : Image) (block number : ℕ) → IsClean block image → HasLog image (32 * block) number [] [] 0 (32 * block) number
+empty_log : (image : Image) (block number : ℕ) → IsCleanBlock block image → HasLog image (32 * block) number [] [] 0 (32 * block) number
 empty_log image block number clean =
     let first : 32 * block / 32 ≡ block = omega arith in
     record {
@@ -34,19 +31,19 @@ empty_log image block number clean =
       turns_are = refl;
     }
 
-pub clean_log : (image : Image) (block number : ℕ) → IsClean block image → number < 2 ^ 64 → log_in image (32 * block) number ≡ stop (32 * block) number
+pub clean_log : (image : Image) (block number : ℕ) → IsCleanBlock block image → number < 2 ^ 64 → log_in image (32 * block) number ≡ stop (32 * block) number
 unfolding empty_log
 clean_log image block number clean low = log_in_is image (32 * block) number [] [] 0 (32 * block) number (empty_log image block number clean) low
 
-pub clean_table : (image : Image) (anchor : Anchor) → IsClean anchor.log_block image → anchor.log_seq < 2 ^ 64 → table_of image anchor ≡ []
+pub clean_table : (image : Image) (anchor : Anchor) → IsCleanBlock anchor.log_block image → anchor.log_seq < 2 ^ 64 → table_of image anchor ≡ []
 unfolding log_map
 clean_table image anchor clean low = ap (λ (w : Walk). merged (entries_of (Rattle.kssd_model.specs.Groups.groups_from [] w.pages)) []) (clean_log image anchor.log_block anchor.log_seq clean low)
 
-pub clean_merged : (image : Image) (anchor : Anchor) → IsClean anchor.log_block image → anchor.log_seq < 2 ^ 64 → merged_by image anchor ≡ runs_map image anchor.runs
+pub clean_merged : (image : Image) (anchor : Anchor) → IsCleanBlock anchor.log_block image → anchor.log_seq < 2 ^ 64 → merged_by image anchor ≡ runs_map image anchor.runs
 unfolding merged_by
 clean_merged image anchor clean low = ap (λ (es : List Entry). merged es (runs_map image anchor.runs)) (clean_table image anchor clean low)
 
-pub clean_ends : (image : Image) (anchor : Anchor) → IsClean anchor.log_block image → anchor.log_seq < 2 ^ 64 → EndsAt (begun anchor.log_block anchor.log_seq) anchor image
+pub clean_ends : (image : Image) (anchor : Anchor) → IsCleanBlock anchor.log_block image → anchor.log_seq < 2 ^ 64 → EndsAt (begun anchor.log_block anchor.log_seq) anchor image
 clean_ends image anchor clean low =
     let is = clean_log image anchor.log_block anchor.log_seq clean low in
     record {
@@ -80,16 +77,14 @@ anchor_age_is blocks anchor form =
 
 pub opened : (parts : IndexParts) (table : List Entry) (ring : Place) (age : ℕ) → IsFit parts → is_clean parts ≡ true → table ≡ [] → ring ≡ begun parts.anchor.log_block parts.anchor.log_seq
     → age ≡ max (max parts.anchor.number (max parts.anchor.next_run parts.anchor.log_seq)) (parts.next_seq - 1) → (blocks : ℕ) (image : Image) → AreParts parts blocks image
-    → IsIndex (record { layout = parts.layout; page = parts.page; anchor = parts.anchor; levels = parts.levels; table = table; ring = ring; age = age }) blocks image × (age ≡ age_in image)
+    → IsIndex (record { root = record { layout = parts.layout; page = parts.page; anchor = parts.anchor; levels = parts.levels }; table = table; ring = ring; age = age }) blocks image × (age ≡ age_in image)
 opened parts table ring age fit clean is at aged blocks image h =
     let greatest_is = anchor_age_is parts.layout.blocks parts.anchor fit.form in
     let low : parts.anchor.log_seq < 2 ^ 64 = omega (arith, greatest_is, fit.numbers) in
     let erased = h.clean clean in
     let age_is_by : age ≡ age_by image parts.anchor = omega (arith, aged, greatest_is, h.next) in (
       record {
-        device = h.device;
-        anchored = h.anchored;
-        runs = h.runs;
+        root = record { device = h.device; anchored = h.anchored; runs = h.runs };
         log = subst (λ (p : Place). EndsAt p parts.anchor image) (sym at) (clean_ends image parts.anchor erased low);
         table = is ∙ sym (clean_table image parts.anchor erased low);
         few = omega (arith, ap (λ (es : List Entry). length es) is);

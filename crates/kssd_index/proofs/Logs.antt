@@ -87,13 +87,15 @@ pub record KeepsBy (page : ℕ) (anchor : Anchor) (blocks : ℕ) (old new : Imag
   pub anchored : IsAnchored page anchor blocks new
   pub merged_same : merged_by new anchor ≡ merged_by old anchor
   pub shown : shown_by new anchor ≡ shown_by old anchor
+  pub table : table_of new anchor ≡ table_of old anchor
   pub age_is : age_by new anchor ≡ max (anchor_age anchor) (next - 1)
 
 pub ring_keeps : (page : ℕ) (anchor : Anchor) (blocks : ℕ) (old new : Image) (rest : List Entry) (next : ℕ) → IsAnchored page anchor blocks old → StaysOutside old new → IsLogNow anchor new (groups_by old anchor) rest next → KeepsBy page anchor blocks old new next
 ring_keeps page anchor blocks old new rest next h outside now =
+    let table : table_of new anchor ≡ table_of old anchor = table_is anchor new (groups_by old anchor) rest next now ∙ sym (same_table old anchor) in
     let all : merged_by new anchor ≡ merged_by old anchor =
     merged_is blocks anchor old new h.index.form outside
-    ∙ ap (λ (es : List Entry). merged es (runs_map old anchor.runs)) (table_is anchor new (groups_by old anchor) rest next now ∙ sym (same_table old anchor))
+    ∙ ap (λ (es : List Entry). merged es (runs_map old anchor.runs)) table
     ∙ sym (merged_was old anchor) in
     let shown : shown_by new anchor ≡ shown_by old anchor = shown_was new anchor ∙ ap without_marks all ∙ sym (shown_was old anchor) in
     record {
@@ -106,6 +108,7 @@ ring_keeps page anchor blocks old new rest next h outside now =
       };
       merged_same = all;
       shown = shown;
+      table = table;
       age_is = age_now anchor new (groups_by old anchor) rest next now;
     }
 

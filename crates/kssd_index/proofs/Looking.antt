@@ -1,6 +1,5 @@
 -- Looking for visible entries.
 use Rattle.std.proofs.Common.{true, false, ◌≡◌, ◌∙◌, ℕ, ◌*◌, ◌≤◌, Bool, not, cond, List, [], ◌∷◌, ◌++◌, length, take, Option, Some, None, refl, sym, ap, arith}
-use Rattle.std.specs.Prelude.{option_to_list}
 use Rattle.std.proofs.lemmas.List.{take_all}
 use Rattle.kv_nand.specs.Flash.{Image}
 use Rattle.kssd_entry.specs.declared.entry.Entry.{Entry}
@@ -21,18 +20,18 @@ use Rattle.kssd_index.specs.Standing.{IsIndex}
 use Rattle.kssd_index.proofs.Anchored.{shown_is}
 
 -- what is shown by an index
-pub shown_at : (index : Index) (blocks : ℕ) (image : Image) → IsIndex index blocks image → shown_in image ≡ without_marks (merged index.table (levels_map index.levels image))
+pub shown_at : (index : Index) (blocks : ℕ) (image : Image) → IsIndex index blocks image → shown_in image ≡ without_marks (merged index.table (levels_map index.root.levels image))
 unfolding shown_by merged_by
 shown_at index blocks image h =
-    shown_is index.page index.anchor image h.anchored.newest
-    ∙ (λ i. without_marks (merged (sym h.table i) (runs_map image (sym h.runs.named i))))
+    shown_is index.root.page index.root.anchor image h.root.anchored.newest
+    ∙ (λ i. without_marks (merged (sym h.table i) (runs_map image (sym h.root.runs.named i))))
 
-pub find_shown : (index : Index) (blocks : ℕ) (image : Image) (key : List ℕ) → IsIndex index blocks image → unmarked (first_of (find_entry index.table key) (find_entry (levels_map index.levels image) key)) ≡ find_entry (shown_in image) key
+pub find_shown : (index : Index) (blocks : ℕ) (image : Image) (key : List ℕ) → IsIndex index blocks image → unmarked (first_of (find_entry index.table key) (find_entry (levels_map index.root.levels image) key)) ≡ find_entry (shown_in image) key
 find_shown index blocks image key h =
-    let rising : is_rising index.table ≡ true = ap is_rising h.table ∙ log_rises image (32 * index.anchor.log_block) index.anchor.log_seq in
-    let runs = runs_rise image (infos_of index.levels) in
-    ap unmarked (sym (find-merged index.table (levels_map index.levels image) key rising))
-    ∙ sym (find_unmarked (merged index.table (levels_map index.levels image)) key (Rattle.kssd_model.proofs.RisingEntries.is_rising-merged index.table (levels_map index.levels image) runs))
+    let rising : is_rising index.table ≡ true = ap is_rising h.table ∙ log_rises image (32 * index.root.anchor.log_block) index.root.anchor.log_seq in
+    let runs = runs_rise image (infos_of index.root.levels) in
+    ap unmarked (sym (find-merged index.table (levels_map index.root.levels image) key rising))
+    ∙ sym (find_unmarked (merged index.table (levels_map index.root.levels image)) key (Rattle.kssd_model.proofs.RisingEntries.is_rising-merged index.table (levels_map index.root.levels image) runs))
     ∙ ap (λ (es : List Entry). find_entry es key) (sym (shown_at index blocks image h))
 
 -- from a key on, without marks
@@ -53,8 +52,8 @@ from_unmarked (x ∷ xs) key = by (is_below key x) (is_gone x) refl refl (from_u
         ∙ ap (λ (es : List Entry). x ∷ es) rest
         ∙ sym (ap (λ (b : Bool). cond (not b) (x ∷ entries_from (without_marks xs) key) (entries_from (without_marks xs) key)) e)
 
-pub page_shown : (index : Index) (blocks : ℕ) (image : Image) (key : List ℕ) → IsIndex index blocks image → without_marks (entries_from (merged index.table (levels_map index.levels image)) key) ≡ entries_from (shown_in image) key
-page_shown index blocks image key h = from_unmarked (merged index.table (levels_map index.levels image)) key ∙ ap (λ (es : List Entry). entries_from es key) (sym (shown_at index blocks image h))
+pub page_shown : (index : Index) (blocks : ℕ) (image : Image) (key : List ℕ) → IsIndex index blocks image → without_marks (entries_from (merged index.table (levels_map index.root.levels image)) key) ≡ entries_from (shown_in image) key
+page_shown index blocks image key h = from_unmarked (merged index.table (levels_map index.root.levels image)) key ∙ ap (λ (es : List Entry). entries_from es key) (sym (shown_at index blocks image h))
 
 -- ---- a table from a key on over levels
 
@@ -77,14 +76,3 @@ stream_rests table entries rest levels blocks image key runs most stand len is r
     ∙ (λ i. merged (all i) (over image (Some key) (runs_are i) []))
     ∙ ap (merged (entries_from table key)) (over_from (all_runs levels) key blocks image (all_stand levels blocks image stand))
     ∙ sym (from_merged table (levels_map levels image) key (runs_rise image (infos_of levels)))
-
--- ---- an entry that is no mark
-
-pub left_next : (all found rest later : List Entry) (e : Entry) (next : Option Entry) → without_marks all ≡ found ++ without_marks rest → rest ≡ option_to_list next ++ later → next ≡ Some e → without_marks all ≡ (found ++ without_marks (e ∷ [])) ++ without_marks later
-left_next all found rest later e next is gives some =
-    let given : rest ≡ e ∷ later = gives ∙ ap (λ (o : Option Entry). option_to_list o ++ later) some in
-    is ∙ ap (λ (es : List Entry). found ++ without_marks es) given ∙ ap (λ (es : List Entry). found ++ es) (by (is_gone e)) ∙ sym (Rattle.std.proofs.Common.append_assoc found (without_marks (e ∷ [])) (without_marks later))
-  where
-    by : (b : Bool) → cond (not b) (e ∷ without_marks later) (without_marks later) ≡ cond (not b) (e ∷ []) [] ++ without_marks later
-    by true = refl
-    by false = refl

@@ -1,5 +1,4 @@
 pub mod Standing
 pub mod Mapping
 pub mod Costs
-pub mod Writing
-pub mod Anew
+pub mod Following

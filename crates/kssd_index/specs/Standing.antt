@@ -12,6 +12,7 @@ use Rattle.kssd_image.specs.Stages.{log_map}
 use Rattle.kssd_image.specs.Damages.{IsAnchorFit}
 use Rattle.kssd_image.specs.Whole.{IsIndexOf, log_of, age_by}
 use Rattle.kssd_index.specs.declared.index.Index.{Index}
+use Rattle.kssd_index.specs.declared.root.Root.{Root}
 use Rattle.kssd_index.specs.declared.parts.IndexParts.{IndexParts}
 
 -- ---- the parts of the standing fact
@@ -25,6 +26,12 @@ pub record IsAnchored (page : ℕ) (anchor : Anchor) (blocks : ℕ) (image : Ima
 pub record AreRuns (levels : Levels) (anchor : Anchor) (blocks : ℕ) (image : Image) : Type 0 where
   pub named : infos_of levels ≡ anchor.runs
   pub stand : StandLevels levels blocks image
+
+-- a root stands in an image of so many blocks: its anchor is the newest, and its runs are the anchor's
+pub record IsRoot (root : Root) (blocks : ℕ) (image : Image) : Type 0 where
+  pub device : root.layout.blocks ≡ blocks
+  pub anchored : IsAnchored root.page root.anchor blocks image
+  pub runs : AreRuns root.levels root.anchor blocks image
 
 -- the anchor's log ends at this place behind its last whole group, and all later pages of the place's block are Erased; with the blocks that are left it fills 8
 pub record EndsAt (place : Place) (anchor : Anchor) (image : Image) : Type 0 where
@@ -40,15 +47,13 @@ table_of image anchor = log_map image (32 * anchor.log_block) anchor.log_seq
 
 -- ---- the standing fact
 
--- an index stands in an image of so many blocks: its anchor is the newest, its runs are the anchor's, the anchor's log ends at the ring's place, the table has the newest entry of each key of that log and at most 1,024, and no number is above its age
+-- an index stands in an image of so many blocks: its root does, the anchor's log ends at the ring's place, the table has the newest entry of each key of that log and at most 1,024, and no number is above its age
 pub record IsIndex (index : Index) (blocks : ℕ) (image : Image) : Type 0 where
-  pub device : index.layout.blocks ≡ blocks
-  pub anchored : IsAnchored index.page index.anchor blocks image
-  pub runs : AreRuns index.levels index.anchor blocks image
-  pub log : EndsAt index.ring index.anchor image
-  pub table : index.table ≡ table_of image index.anchor
+  pub root : IsRoot index.root blocks image
+  pub log : EndsAt index.ring index.root.anchor image
+  pub table : index.table ≡ table_of image index.root.anchor
   pub few : length index.table ≤ 1024
-  pub numbers : age_by image index.anchor ≤ index.age
+  pub numbers : age_by image index.root.anchor ≤ index.age
 
 -- at least the greatest number of eight bytes in the newest anchor and in the pages of its log
 abbrev pub index_age : Index → ℕ

@@ -2,13 +2,13 @@
 //! Together they map each key to its newest entry.
 #![tactic(auto)]
 
-mod anew;
 mod append;
-mod base;
 mod index;
 mod parts;
 mod place;
 mod reading;
+mod root;
+mod running;
 
 pub use index::Index;
 pub use parts::IndexParts;

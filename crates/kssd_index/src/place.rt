@@ -3,7 +3,7 @@ ghost use Rattle.std.specs.Prelude.{◌≡◌, ◌-◌, max};
 ghost use Rattle.std.specs.List.{AllByRecursion};
 ghost use Rattle.kssd_entry.specs.Spelling.{FitsEntry};
 
-use crate::anew::{begin_anew, write_shown};
+use crate::root::Root;
 use crate::{Index, IndexParts};
 use kssd_entry::Entries;
 use kssd_log::Ring;
@@ -12,6 +12,10 @@ use kssd_table::Table;
 use kv_base::Memory;
 use kv_nand::{FlashFault, Nand};
 use std::alloc::Global;
+use std::mem;
+
+/// The most anchors that make place: one for each of two merges, and one for the flush.
+const MOST_ANCHORS: u64 = 3;
 
 // The greatest number of an anchor and of a log before this number, where each run has a lower
 // number than the next.
@@ -54,18 +58,21 @@ impl Index {
         let table = Table::new(alloc)?;
         let age = greatest_number(&parts.anchor, parts.next_seq);
         Ok(Index {
-            layout: parts.layout,
-            page: parts.page,
-            anchor: parts.anchor,
-            levels: parts.levels,
+            root: Root {
+                layout: parts.layout,
+                page: parts.page,
+                anchor: parts.anchor,
+                levels: parts.levels,
+            },
             table,
             ring,
             age,
         })
     }
 
-    /// The index of these parts, whose log is merged with the runs into one run. A new log begins,
-    /// in the ring block behind the last, erased before, and an anchor names that run alone.
+    /// The index of these parts, whose log is written as a run of level 0 where it has entries, after
+    /// merges where level 0 has no place for it. A new log begins, in the ring block behind the last,
+    /// erased before, and an anchor names it.
     pub fn settle<N: Nand>(
         alloc: Global,
         nand: &mut N,
@@ -75,30 +82,26 @@ impl Index {
         requires number { age_in (N.flash nand.old).image + 2 ^ 20 ≤ 2 ^ 63 }
         ensures stands { IfOk result (λ index. IsIndex index (N.flash nand.new).blocks (N.flash nand.new).image) }
         ensures kept { IsKept (N.flash nand.old).blocks (N.flash nand.old).image (N.flash nand.new).image }
-        ensures aged { age_in (N.flash nand.new).image ≤ age_in (N.flash nand.old).image + 1 }
-        ensures age { IfOk result (λ index. index_age index ≤ age_in (N.flash nand.old).image + 1) }
+        ensures aged { age_in (N.flash nand.new).image ≤ age_in (N.flash nand.old).image + 3 }
+        ensures age { IfOk result (λ index. index_age index ≤ age_in (N.flash nand.old).image + 3) }
         ensures works { OnOk result (Works (N.flash nand.old) (N.flash nand.new) (most_place_cost (N.flash nand.old).blocks) (2 ^ 64)) }
         ensures stops { IfErr result (λ fault. Stops (N.flash nand.old) fault (N.flash nand.new) (most_place_cost (N.flash nand.old).blocks) (2 ^ 64)) }
     {
-        let run = write_shown(
-            alloc,
-            nand,
-            parts.layout,
-            &parts.levels,
-            parts.log.entries(),
-            parts.anchor.next_run,
-        )?;
-        let index = begin_anew(
-            alloc,
-            nand,
-            parts.layout,
-            parts.page,
-            &parts.anchor,
-            run,
-            parts.last_block,
-            parts.next_seq,
-        )?;
-        Ok(index)
+        let table = Table::new(alloc)?;
+        let mut root = Root {
+            layout: parts.layout,
+            page: parts.page,
+            anchor: parts.anchor,
+            levels: parts.levels,
+        };
+        let ring = root.flush(alloc, nand, &parts.log, parts.last_block, parts.next_seq)?;
+        let age = greatest_number(&root.anchor, ring.seq());
+        Ok(Index {
+            root,
+            table,
+            ring,
+            age,
+        })
     }
 
     /// Makes place for a group of these entries. The visible entries stay, also after a fault.
@@ -120,26 +123,13 @@ impl Index {
         ensures stops { IfErr result (λ fault. Stops (N.flash nand.old) fault (N.flash nand.new) (most_place_cost (N.flash nand.old).blocks) (2 ^ 64)) }
     {
         read_sizes(entries);
-        self.age += 1;
-        let run = write_shown(
-            alloc,
-            nand,
-            self.layout,
-            &self.levels,
-            self.table.entries(),
-            self.anchor.next_run,
-        )?;
-        let index = begin_anew(
-            alloc,
-            nand,
-            self.layout,
-            self.page,
-            &self.anchor,
-            run,
-            self.ring.block(),
-            self.ring.seq(),
-        )?;
-        *self = index;
+        let empty = Table::new(alloc)?;
+        let table = mem::replace(&mut self.table, empty).freeze();
+        self.age += MOST_ANCHORS;
+        let last_block = self.ring.block();
+        let next_seq = self.ring.seq();
+        self.ring = self.root.flush(alloc, nand, &table, last_block, next_seq)?;
+        self.age = greatest_number(&self.root.anchor, self.ring.seq());
         Ok(())
     }
 }

@@ -1,27 +1,20 @@
 // Looking for entries.
-ghost use Rattle.std.specs.Prelude.{◌≡◌, ◌≤◌, ◌+◌, ◌∷◌, ◌++◌, [], None, IfOk, OnOk, IfErr, IsSome};
+ghost use Rattle.std.specs.Prelude.{◌≡◌, ◌≤◌, ◌+◌, None, IfOk, OnOk, IfErr, IsSome};
 ghost use Rattle.kv_base.specs.Counts.{one_more};
 ghost use Rattle.kssd_model.specs.OnlyReading.{OnlyReads, StopsReading};
 ghost use Rattle.kssd_model.specs.Rising.{find_entry, entries_from, merged, first_of};
 ghost use Rattle.kssd_image.specs.Stages.{without_marks};
 ghost use Rattle.kssd_frames.specs.Merging.{unmarked};
 ghost use Rattle.kssd_levels.specs.Levels.{StandLevels, levels_map};
-ghost use Rattle.kssd_levels.specs.First.{AreFirst};
 ghost use Rattle.kssd_levels.specs.Streams.{stream_rest, StandsStream};
 
 use crate::Index;
-use crate::anew::copies_of_runs;
-use crate::base::take_next;
-use kssd_entry::{Entries, Entry};
+use kssd_entry::Entry;
 use kssd_levels::{Levels, Stream};
-use kssd_merge::Ordered;
 use kssd_table::Table;
 use kv_base::Key;
 use kv_nand::{FlashFault, Nand};
 use std::alloc::Global;
-
-/// How many entries are given at most.
-const PAGE_ENTRIES: usize = 32;
 
 // The newest entry of a key, a deletion mark too.
 fn newest_of<N: Nand>(
@@ -55,38 +48,6 @@ fn visible(found: Option<Entry>) -> Option<Entry>
     }
 }
 
-// The first entries of a source that are no deletion marks, some where there are any.
-fn first_kept<N: Nand, S: Ordered + Drop>(
-    alloc: Global,
-    nand: &mut N,
-    source: S,
-) -> Result<Entries, FlashFault>
-    requires { S.stands source (N.flash nand.old).blocks (N.flash nand.old).image }
-    ensures first { IfOk result (λ found. AreFirst found (without_marks (S.rest source (N.flash nand.old).image))) }
-    ensures reads { OnOk result (OnlyReads (N.flash nand.old) (N.flash nand.new)) }
-    ensures err { IfErr result (λ fault. StopsReading (N.flash nand.old) fault (N.flash nand.new)) }
-{
-    let mut source = source;
-    let mut found = Entries::new(alloc);
-    'entries: while found.len() < PAGE_ENTRIES {
-        let Some(entry) = take_next(alloc, nand, &mut source)? else {
-            return Ok(found);
-        };
-        push_kept(&mut found, entry)?;
-    }
-    Ok(found)
-}
-
-// Adds an entry that is no deletion mark.
-fn push_kept(found: &mut Entries, entry: Entry) -> Result<(), kv_base::Memory>
-    ensures { OnOk result (found.new ≡ found.old ++ without_marks (entry ∷ [])) }
-{
-    match entry {
-        Entry::Gone { .. } => Ok(()),
-        other => found.push(other),
-    }
-}
-
 // The entries of a table from a key on over those of levels.
 fn stream_from<N: Nand>(
     alloc: Global,
@@ -103,7 +64,7 @@ fn stream_from<N: Nand>(
 {
     let most = table.len();
     let entries = table.from(alloc, key, most)?;
-    let runs = copies_of_runs(alloc, levels)?;
+    let runs = levels.copies(alloc)?;
     let stream = Stream::open(alloc, nand, entries, runs, Some(key))?;
     Ok(stream)
 }
@@ -134,26 +95,8 @@ impl Index {
         ensures few { (N.flash nand.new).reads ≤ (N.flash nand.old).reads + 6 }
         ensures err { IfErr result (λ fault. StopsReading (N.flash nand.old) fault (N.flash nand.new)) }
     {
-        let newest = newest_of(alloc, nand, &self.table, &self.levels, key)?;
+        let newest = newest_of(alloc, nand, &self.table, &self.root.levels, key)?;
         Ok(visible(newest))
-    }
-
-    /// The first of the visible entries from a key on, by rising keys; none exactly where there are
-    /// none.
-    pub fn page_from<N: Nand>(
-        &self,
-        alloc: Global,
-        nand: &mut N,
-        key: &Key,
-    ) -> Result<Entries, FlashFault>
-        requires { IsIndex self.now (N.flash nand.old).blocks (N.flash nand.old).image }
-        ensures found { IfOk result (λ found. AreFirst found (entries_from (shown_in (N.flash nand.old).image) key.now)) }
-        ensures reads { OnOk result (OnlyReads (N.flash nand.old) (N.flash nand.new)) }
-        ensures err { IfErr result (λ fault. StopsReading (N.flash nand.old) fault (N.flash nand.new)) }
-    {
-        let stream = stream_from(alloc, nand, &self.table, &self.levels, key)?;
-        let found = first_kept(alloc, nand, stream)?;
-        Ok(found)
     }
 
     /// The newest entry of each key from a key on, deletion marks too, by rising keys; they are read
@@ -170,7 +113,7 @@ impl Index {
         ensures reads { OnOk result (OnlyReads (N.flash nand.old) (N.flash nand.new)) }
         ensures err { IfErr result (λ fault. StopsReading (N.flash nand.old) fault (N.flash nand.new)) }
     {
-        let stream = stream_from(alloc, nand, &self.table, &self.levels, key)?;
+        let stream = stream_from(alloc, nand, &self.table, &self.root.levels, key)?;
         Ok(stream)
     }
 }

@@ -112,8 +112,8 @@ impl Levels {
         None
     }
 
-    // How many entries the run of level 1 has, if there is one.
-    fn one_entries(&self) -> u32
+    /// How many entries the run of level 1 has, if there is one.
+    pub fn one_entries(&self) -> u32
         ensures { result ≡ first_entries self.now.one }
     {
         match self.one.as_slice().first() {

@@ -13,7 +13,7 @@ mod two;
 
 pub use kind::JobKind;
 pub use laws::{job_blocks_suffice, levels_stay};
-pub use levels::Levels;
+pub use levels::{FULL_ONE, Levels, MAX_ZERO};
 pub use reader::RunReader;
 pub use runs::RunList;
 pub use stream::{MAX_RUNS, Stream};

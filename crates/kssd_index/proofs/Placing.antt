@@ -1,0 +1,30 @@
+-- An index whose log is empty.
+use Rattle.std.proofs.Common.{◌≡◌, ◌∙◌, ℕ, ◌-◌, max, List, [], length, sym, ap, subst, arith}
+use Rattle.kv_nand.specs.Flash.{Image}
+use Rattle.kssd_entry.specs.declared.entry.Entry.{Entry}
+use Rattle.kssd_image.specs.Whole.{age_by, age_in}
+use Rattle.kssd_log.specs.declared.place.Place.{Place}
+use Rattle.kssd_index.specs.declared.root.Root.{Root}
+use Rattle.kssd_index.specs.Standing.{IsRoot, EndsAt, IsIndex, table_of}
+use Rattle.kssd_index.proofs.Beginning.{anchor_age_is}
+use Rattle.kssd_index.proofs.Moving.{root_age}
+
+pub record IsPlacedAt (root : Root) (table : List Entry) (ring : Place) (age blocks : ℕ) (image : Image) : Type 0 where
+  pub stands : IsIndex (record { root = root; table = table; ring = ring; age = age }) blocks image
+  pub age_is : age ≡ age_in image
+
+pub placed : (root : Root) (table : List Entry) (ring at : Place) (seq age blocks : ℕ) (image : Image) → IsRoot root blocks image → table ≡ [] → ring ≡ at → EndsAt at root.anchor image → table_of image root.anchor ≡ [] → seq ≡ ring.seq
+    → age ≡ max (max root.anchor.number (max root.anchor.next_run root.anchor.log_seq)) (seq - 1) → IsPlacedAt root table ring age blocks image
+placed root table ring at seq age blocks image h none ring_is log empty number aged =
+    let here : EndsAt ring root.anchor image = subst (λ (p : Place). EndsAt p root.anchor image) (sym ring_is) log in
+    let age_is : age ≡ age_by image root.anchor = omega (arith, aged, number, here.number, anchor_age_is blocks root.anchor h.anchored.index.form) in
+    record {
+      stands = record {
+        root = h;
+        log = here;
+        table = none ∙ sym empty;
+        few = omega (arith, ap (λ (es : List Entry). length es) none);
+        numbers = omega (arith, age_is);
+      };
+      age_is = age_is ∙ sym (root_age root blocks image h);
+    }
