@@ -1,5 +1,5 @@
 // Reading the log of an anchor.
-ghost use Rattle.std.specs.Prelude.{◌≡◌, ◌≤◌, ◌<◌, ◌*◌, ◌^◌, ◌↔◌, [], length, take, IsTrue, IfOk, OnOk, IfErr};
+ghost use Rattle.std.specs.Prelude.{◌≡◌, ◌≤◌, ◌<◌, ◌*◌, ◌^◌, ◌↔◌, [], true, length, take, IsTrue, IfOk, OnOk, IfErr};
 ghost use Rattle.kv_nand.specs.Flash.{Erased};
 ghost use Rattle.kssd_image.specs.Stages.{entries_of};
 ghost use Rattle.kssd_log.specs.Scan.{IsScan};
@@ -97,6 +97,7 @@ fn is_erased<N: Nand>(nand: &mut N, buffer: &mut PageData, page: u32) -> Result<
     requires { page < 32 * (N.flash nand.old).blocks }
     ensures ok { IfOk result (λ erased. IsTrue erased ↔ ((N.flash nand.old).image page ≡ Erased)) }
     ensures reads { OnOk result (OnlyReads (N.flash nand.old) (N.flash nand.new)) }
+    ensures powered { OnOk result ((N.flash nand.old).powered ≡ true) }
     ensures err { IfErr result (λ fault. StopsReading (N.flash nand.old) fault (N.flash nand.new)) }
 {
     Ok(nand.read(page, buffer)? == PageKind::Erased)
@@ -107,6 +108,7 @@ pub fn is_erased_block<N: Nand>(alloc: Global, nand: &mut N, block: u16) -> Resu
     requires { block < (N.flash nand.old).blocks }
     ensures ok { IfOk result (λ erased. IsTrue erased ↔ IsErasedBlock (N.flash nand.old).image block) }
     ensures reads { OnOk result (OnlyReads (N.flash nand.old) (N.flash nand.new)) }
+    ensures powered { OnOk result ((N.flash nand.old).powered ≡ true) }
     ensures err { IfErr result (λ fault. StopsReading (N.flash nand.old) fault (N.flash nand.new)) }
 {
     let mut buffer = PageData::new(alloc)?;

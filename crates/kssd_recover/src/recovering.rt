@@ -1,5 +1,5 @@
 // What a device holds, read before it is used.
-ghost use Rattle.std.specs.Prelude.{◌≡◌, ◌≤◌, IfOk, OnOk, IfErr};
+ghost use Rattle.std.specs.Prelude.{◌≡◌, ◌≤◌, true, IfOk, OnOk, IfErr};
 ghost use Rattle.kssd_image.specs.Damages.{IsDamage};
 ghost use Rattle.kssd_image.specs.Whole.{Sound};
 ghost use Rattle.kssd_model.specs.OnlyReading.{OnlyReads};
@@ -63,6 +63,7 @@ pub fn recover<N: Nand>(alloc: Global, nand: &mut N) -> Result<Parts, MountFault
     requires sound { Sound (N.flash nand.old).blocks (N.flash nand.old).image }
     ensures ok { IfOk result (AreParts (N.flash nand.old).blocks (N.flash nand.old).image) }
     ensures reads { OnOk result (OnlyReads (N.flash nand.old) (N.flash nand.new)) }
+    ensures powered { OnOk result ((N.flash nand.old).powered ≡ true) }
     ensures err { IfErr result (λ fault. FailsBy (IsDamage (N.flash nand.old).blocks (N.flash nand.old).image) (N.flash nand.old) fault (N.flash nand.new)) }
 {
     let layout = layout_of(nand.blocks());
