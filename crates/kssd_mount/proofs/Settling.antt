@@ -90,6 +90,7 @@ stands old new parts index changes least most on h none settled worked_ standing
       device = device ∙ sym same;
       fills = fills_none parts.values (pages_named (shown_in old.image)) new.image (λ block in_values. h.values.states block (subst (λ (n : ℕ). IsValueBlock n block) device in_values)) h.values.target;
       idle = h.values.target;
+      four = ap length none;
       rising = ap are_rising none;
       valued = ap (are_valued new.blocks new.image) none;
       marked = subst (AreMarked parts.values (shown_in new.image)) (sym none) (subst (λ (es : List Entry). AreMarked parts.values es no_lists) (sym settled.kept.shown) (marked old.blocks old.image parts h));
