@@ -107,13 +107,15 @@ table_stays old new anchor log = ap (λ (w : Walk). merged (entries_of (groups_f
 
 pub index_stands : (index : Index) (blocks : ℕ) (old new : Image) → OnlyValues blocks old new → IsIndex index blocks old → IsIndex index blocks new
 index_stands index blocks old new only stands =
-    let anchor = index.anchor in
-    let form = stands.anchored.index.form in
-    let same = same_index blocks old new anchor only stands.anchored.index in
+    let root = stands.root in
+    let anchor = index.root.anchor in
+    let same = same_index blocks old new anchor only root.anchored.index in
     record {
-      device = stands.device;
-      anchored = record { newest = newest_stays blocks old new only ∙ stands.anchored.newest; index = same.index };
-      runs = runs_stand index.levels anchor blocks old new (blocks_same blocks old new anchor only form) stands.runs;
+      root = record {
+        device = root.device;
+        anchored = record { newest = newest_stays blocks old new only ∙ root.anchored.newest; index = same.index };
+        runs = runs_stand index.root.levels anchor blocks old new (blocks_same blocks old new anchor only root.anchored.index.form) root.runs;
+      };
       log = record {
         page = ap (λ (w : Walk). w.end) same.log ∙ stands.log.page;
         number = ap (λ (w : Walk). w.next) same.log ∙ stands.log.number;
@@ -123,7 +125,7 @@ index_stands index blocks old new only stands =
       };
       table = stands.table ∙ sym (table_stays old new anchor same.log);
       few = stands.few;
-      numbers = subst (λ n. n ≤ index.age) (sym (age_by_stays blocks old new anchor only stands.anchored.index)) stands.numbers;
+      numbers = subst (λ n. n ≤ index.age) (sym (age_by_stays blocks old new anchor only root.anchored.index)) stands.numbers;
     }
 
 -- ---- the device

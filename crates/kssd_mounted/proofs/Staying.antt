@@ -56,7 +56,7 @@ stands_reading m old new reads stands = subst (Stands m) (sym reads.after) (read
 -- the age of an image is that of its index at most
 index_is_old : (index : Index) (blocks : ℕ) (image : Image) → IsIndex index blocks image → age_in image ≤ index_age index
 unfolding age_in
-index_is_old index blocks image stands = subst (λ n. n ≤ index_age index) (sym (ap (age_of image) stands.anchored.newest)) stands.numbers
+index_is_old index blocks image stands = subst (λ n. n ≤ index_age index) (sym (ap (age_of image) stands.root.anchored.newest)) stands.numbers
 
 -- a mount takes what stands, also after calls that leave the image
 pub leaves_image : (m : Mounted) (old new : Flash) → new.blocks ≡ old.blocks → new.image ≡ old.image → Stands m old → Leaves old (mounted_age m) new
