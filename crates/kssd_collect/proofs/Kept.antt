@@ -1,19 +1,13 @@
 -- What stays of a device while pages of values are copied and erased.
-use Rattle.std.proofs.Common.{◌≡◌, ◌≢◌, ◌∙◌, ℕ, ◌+◌, ◌-◌, ◌*◌, ◌/◌, ◌<◌, ◌≤◌, Bool, true, false, cond, max, List, [], length, refl, sym, ap, subst, arith}
+use Rattle.std.proofs.Common.{◌≡◌, ◌≢◌, ◌∙◌, ℕ, ◌+◌, ◌-◌, ◌*◌, ◌/◌, ◌<◌, ◌≤◌, Bool, true, false, cond, List, length, refl, sym, ap, subst, arith}
 use Rattle.kv_nand.specs.Flash.{Flash, Image}
 use Rattle.kv_nand.specs.Working.{Works}
 use Rattle.kv_nand.proofs.Chaining.{works_blocks, works_powered}
-use Rattle.kssd_layout.specs.Numbers.{value_blocks_in, region_in}
-use Rattle.kssd_layout.specs.declared.region.Region.TheVariants as regions
+use Rattle.kssd_layout.specs.Numbers.{value_blocks_in}
 use Rattle.kssd_entry.specs.declared.entry.Entry.{Entry}
-use Rattle.kssd_model.specs.Groups.{Walk, rest_from, turn_count, groups_from}
-use Rattle.kssd_model.specs.Rising.{merged}
-use Rattle.kssd_image.specs.Stages.{entries_of, shown_in, objects_in}
-use Rattle.kssd_image.specs.AnchorForm.{IsAnchorForm, anchor_age}
+use Rattle.kssd_image.specs.Stages.{shown_in, objects_in}
 use Rattle.kssd_image.specs.Whole.{pages_named, has_its_value, IsWhole, age_in}
-use Rattle.kssd_frames.specs.Same.{as_counted, StaysBy, Stays}
-use Rattle.kssd_frames.proofs.Places.{region_of_values, run_pages_named}
-use Rattle.kssd_frames.proofs.SameImages.{newest_in_alike, index_stays}
+use Rattle.kssd_frames.specs.Same.{Stays}
 use Rattle.kssd_tx.specs.Lists.{Transactions, AreLists, change_count}
 use Rattle.kssd_values.specs.Marks.{is_live}
 use Rattle.kssd_values.specs.declared.mark.Mark.{Mark}
@@ -24,13 +18,8 @@ use Rattle.kssd_values.specs.Blocks.{device_of, mark_at, open_room, has_target, 
 use Rattle.kssd_values.specs.Pages.{Fills, KeepsPages, StandsIn}
 use Rattle.kssd_values.specs.Changes.{SameMarks, Clears}
 use Rattle.kssd_values.proofs.Standing.{not_erased}
-use Rattle.kssd_log.specs.Ring.{IsRingPage}
-use Rattle.kssd_index.specs.declared.index.Index.{Index}
 use Rattle.kssd_index.specs.Standing.{IsIndex}
 use Rattle.kssd_index.proofs.Anchored.{aged_still}
-use Rattle.kssd_index.proofs.Appending.{ring_page}
-use Rattle.kssd_index.proofs.Logs.{same_table}
-use Rattle.kssd_index.proofs.Runs.{named_is_run, runs_stand}
 use Rattle.kssd_reclaim.specs.Sources.{is_visible}
 use Rattle.kssd_machine.specs.Names.{times_pending}
 use Rattle.kssd_machine.specs.Machines.{machine_of}
@@ -40,49 +29,8 @@ use Rattle.kssd_machine.proofs.Keeping.{objects_stay, live_stand, pending_stays,
 use Rattle.kssd_machine.proofs.Spacing.{live_most, within_limit, room_collected, room_cleared}
 use Rattle.kssd_mounted.specs.declared.mounted.Mounted.{Mounted}
 use Rattle.kssd_mounted.specs.Standing.{Stands, Leaves, mounted_age}
+use Rattle.kssd_mounted.proofs.BesideValues.{index_stands}
 use Rattle.kssd_collect.specs.Collecting.{IsBusy, IsEmptied}
-
--- ---- the index
-
--- an index stands where pages of values alone differ
-pub index_kept : (index : Index) (blocks : ℕ) (old new : Image) → IsIndex index blocks old → ((q : ℕ) → (IsValueBlock blocks (q / 32) → ⊥) → new q ≡ old q) → IsIndex index blocks new
-index_kept index blocks old new h outside = record {
-  device = h.device;
-  anchored = record { newest = newest_in_alike old new (λ q lt. ap as_counted (low q (omega arith))) ∙ h.anchored.newest; index = same.index };
-  runs = runs_stand index.levels index.anchor blocks old new (λ q named. behind q (named_is_run blocks (q / 32) index.anchor.runs form.runs named)) h.runs;
-  log = record {
-    page = ap (λ (w : Walk). w.end) same.log ∙ h.log.page;
-    number = ap (λ (w : Walk). w.next) same.log ∙ h.log.number;
-    whole = ap (λ (w : Walk). rest_from [] w.pages) same.log ∙ h.log.whole;
-    blocks = ap (λ (w : Walk). turn_count w.pages + index.ring.blocks) same.log ∙ h.log.blocks;
-    free = record {
-      here = low index.ring.page (omega (arith, place.high)) ∙ h.log.free.here;
-      earlier = λ q here before e. h.log.free.earlier q here before (sym (low q (omega (arith, place.high))) ∙ e);
-      later = λ q here after. low q (omega (arith, place.high)) ∙ h.log.free.later q here after;
-    };
-  };
-  table = h.table ∙ same_table old index.anchor ∙ ap (λ (w : Walk). merged (entries_of (groups_from [] w.pages)) []) (sym same.log) ∙ sym (same_table new index.anchor);
-  few = h.few;
-  numbers = subst (λ (w : Walk). max (anchor_age index.anchor) (w.next - 1) ≤ index.age) (sym same.log) h.numbers;
-}
-  where
-    form : IsAnchorForm blocks index.anchor
-    form = h.anchored.index.form
-
-    place : IsRingPage index.ring.page
-    place = ring_page index blocks old h
-
-    low : (q : ℕ) → q < 640 → new q ≡ old q
-    low q lt = outside q (λ is. let first = is.first in absurd (omega arith))
-
-    behind : (q : ℕ) → region_in blocks (q / 32) ≡ regions.Run → new q ≡ old q
-    behind q run = outside q (λ is. let e : regions.Run ≡ regions.Value = sym run ∙ region_of_values blocks (q / 32) is.first in absurd cc)
-
-    same : StaysBy blocks old new index.anchor
-    same = index_stays blocks old new index.anchor h.anchored.index (record {
-      ring = λ q from to. ap as_counted (low q to);
-      runs = λ k d lt i less. ap as_counted (behind _ (run_pages_named blocks index.anchor.runs form.runs k d lt i less).region);
-    })
 
 -- ---- the device
 
@@ -182,7 +130,7 @@ busy_kept m values old new ops reads h keeps device marks fills block works =
       least = subst (λ n. 256 ≤ n) (sym blocks) h.least;
       most = subst (λ n. n ≤ 2048) (sym blocks) h.most;
       whole = subst (λ n. IsWhole n new.image) (sym blocks) is.keeps.whole;
-      index = subst (λ n. IsIndex m.index n new.image) (sym blocks) (index_kept m.index old.blocks old.image new.image h.index (λ q none. keeps.outside q (λ value. none (subst (λ n. IsValueBlock n (q / 32)) h.device value))));
+      index = subst (λ n. IsIndex m.index n new.image) (sym blocks) (index_stands m.index old.blocks old.image new.image (λ q none. keeps.outside q (λ value. none (subst (λ n. IsValueBlock n (q / 32)) h.device value))) h.index);
       device = device ∙ h.device ∙ sym blocks;
       fills = fills;
       four = h.four;

@@ -7,7 +7,7 @@ pub returns-then-len-eq0-clause-shown : goal.returns-then-len-eq0-clause-shown
 returns-then-len-eq0-clause-shown g c = none_logged _ c.args.entries.now (sym c.len.ensures ∙ c.if-len-eq0.true)
 
 pub returns-then-len-eq0-clause-kept : goal.returns-then-len-eq0-clause-kept
-returns-then-len-eq0-clause-kept g c = before_still c.args.index.now.page c.args.index.now.anchor _ _ _ c.requires.stands.anchored
+returns-then-len-eq0-clause-kept g c = before_still c.args.index.now.root.page c.args.index.now.root.anchor _ _ _ c.requires.stands.root.anchored
 
 pub returns-then-len-eq0-clause-aged : goal.returns-then-len-eq0-clause-aged
 returns-then-len-eq0-clause-aged g c = aged_still c.args.index.now _ _ c.requires.stands
