@@ -120,7 +120,7 @@ settled_since old mid new clean read h =
     record {
       blocks = h.blocks ∙ blocks;
       kept = subst (λ (p : ℕ × Image). IsKept p.0 p.1 new.image) (λ i. (blocks i, image i)) h.kept;
-      age = subst (λ (im : Image). age_in new.image ≤ age_in im + 1) image h.age;
+      age = subst (λ (im : Image). age_in new.image ≤ age_in im + 3) image h.age;
       idle = λ is. let idle = h.idle is in record { image = idle.image ∙ image; ops = idle.ops ∙ ap (λ (f : Flash). f.ops) read.after };
     }
 

@@ -34,9 +34,9 @@ pub record IsOnlyRead (old new : Flash) : Type 0 where
   pub image : new.image ≡ old.image
   pub ops : new.ops ≡ old.ops
 
--- the visible entries and the values are kept, and the age rises by at most 1; and where the log was clean, nothing was programmed or erased
+-- the visible entries and the values are kept, and the age rises by at most 3; and where the log was clean, nothing was programmed or erased
 pub record IsSettled (clean : Bool) (old new : Flash) : Type 0 where
   pub blocks : new.blocks ≡ old.blocks
   pub kept : IsKept old.blocks old.image new.image
-  pub age : age_in new.image ≤ age_in old.image + 1
+  pub age : age_in new.image ≤ age_in old.image + 3
   pub idle : clean ≡ true → IsOnlyRead old new

@@ -1,5 +1,4 @@
-//! A device is mounted: what its flash holds is read, and a log that isn't clean is merged into the
-//! runs.
+//! A device is mounted: what its flash holds is read, and a log that isn't clean is written as a run.
 #![tactic(auto)]
 
 mod laws;

@@ -21,8 +21,8 @@ use std::alloc::Global;
 
 /// Mounts the device on a flash of 256 to 2,048 blocks whose image is sound. It is up then with the
 /// objects of the image, and nothing is pending. Where the block in which the newest anchor's log
-/// begins is Erased, the flash is only read; else the log is merged with the runs into one run. The
-/// objects stay in any case, and a mount takes the image again.
+/// begins is Erased, the flash is only read; else the log is written as a run and a new one begins.
+/// The objects stay in any case, and a mount takes the image again.
 ///
 /// # Errors
 ///
@@ -52,7 +52,7 @@ fn stand_up<N: Nand>(alloc: Global, nand: &mut N, parts: Parts) -> Result<Mounte
     requires parts { AreParts (N.flash nand.old).blocks (N.flash nand.old).image parts }
     ensures stands { IfOk result (λ mounted. Stands mounted (N.flash nand.new)) }
     ensures none { IfOk result (λ mounted. mounted.changes ≡ no_lists) }
-    ensures age { IfOk result (λ mounted. mounted_age mounted ≤ age_in (N.flash nand.old).image + 1) }
+    ensures age { IfOk result (λ mounted. mounted_age mounted ≤ age_in (N.flash nand.old).image + 3) }
     ensures settled { IsSettled parts.clean (N.flash nand.old) (N.flash nand.new) }
     ensures works { OnOk result (Works (N.flash nand.old) (N.flash nand.new) (most_place_cost (N.flash nand.old).blocks) (2 ^ 64)) }
     ensures stops { IfErr result (λ fault. Stops (N.flash nand.old) fault (N.flash nand.new) (most_place_cost (N.flash nand.old).blocks) (2 ^ 64)) }
@@ -100,7 +100,7 @@ fn index_of<N: Nand>(alloc: Global, nand: &mut N, parts: IndexParts) -> Result<I
     requires fit { IsFit parts }
     requires number { age_in (N.flash nand.old).image + 2 ^ 20 ≤ 2 ^ 63 }
     ensures stands { IfOk result (λ index. IsIndex index (N.flash nand.new).blocks (N.flash nand.new).image) }
-    ensures age { IfOk result (λ index. index_age index ≤ age_in (N.flash nand.old).image + 1) }
+    ensures age { IfOk result (λ index. index_age index ≤ age_in (N.flash nand.old).image + 3) }
     ensures settled { IsSettled (is_clean parts) (N.flash nand.old) (N.flash nand.new) }
     ensures works { OnOk result (Works (N.flash nand.old) (N.flash nand.new) (most_place_cost (N.flash nand.old).blocks) (2 ^ 64)) }
     ensures stops { IfErr result (λ fault. Stops (N.flash nand.old) fault (N.flash nand.new) (most_place_cost (N.flash nand.old).blocks) (2 ^ 64)) }
