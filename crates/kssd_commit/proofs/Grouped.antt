@@ -6,13 +6,14 @@ use Rattle.kv_nand.specs.declared.fault.FlashFault.{FlashFault}
 use Rattle.kv_nand.specs.Flash.{Flash, Image}
 use Rattle.kv_nand.specs.Working.{Works, Stops}
 use Rattle.kv_nand.proofs.Chaining.{works_then_stops, stops_within}
+use Rattle.kssd_layout.specs.Numbers.{first_value_block_in}
 use Rattle.kssd_entry.specs.declared.entry.Entry.{Entry}
 use Rattle.kssd_model.specs.Rising.{merged}
 use Rattle.kssd_log.specs.Ring.{room_of, turns_for}
 use Rattle.kssd_log.specs.Append.{pages_of}
 use Rattle.kssd_index.specs.declared.index.Index.{Index}
 use Rattle.kssd_index.specs.Standing.{IsIndex}
-use Rattle.kssd_index.specs.Mapping.{IsKept, IsBeforeOrAfter, with_entries}
+use Rattle.kssd_index.specs.Mapping.{HasIndex, IsKept, IsBeforeOrAfter, with_entries}
 use Rattle.kssd_index.specs.Costs.{has_place_in, group_cost}
 
 -- a group that has place takes few operations
@@ -27,12 +28,12 @@ few_for_group index blocks image entries stands place =
 -- before or after a group that was put after place was made is before or after it
 pub kept_then_either : (a b c : Flash) (ops reads : ℕ) (entries : List Entry) → Works a b ops reads → IsKept a.blocks a.image b.image → IsBeforeOrAfter b.blocks b.image entries c.image → IsBeforeOrAfter a.blocks a.image entries c.image
 kept_then_either a b c ops reads entries works kept either = record {
-  index = subst (λ n. Rattle.kssd_index.specs.Mapping.HasIndex n c.image) blocks either.index;
+  index = subst (λ n. HasIndex n c.image) blocks either.index;
   shown = elim either.shown [
     | inl same ↦ inl (same ∙ kept.shown)
     | inr after ↦ inr (after ∙ ap (λ xs. with_entries xs entries) kept.shown)
   ];
-  values = λ q low. either.values q (subst (λ n. Rattle.kssd_layout.specs.Numbers.first_value_block_in n ≤ q / 32) (sym blocks) low) ∙ kept.values q low;
+  values = λ q low. either.values q (subst (λ n. first_value_block_in n ≤ q / 32) (sym blocks) low) ∙ kept.values q low;
 }
   where
     blocks : b.blocks ≡ a.blocks
