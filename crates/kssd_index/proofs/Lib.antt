@@ -17,3 +17,4 @@ pub mod Layers
 pub mod Installed
 pub mod Moving
 pub mod Placing
+pub mod Beside

@@ -1,29 +1,26 @@
 -- What stays of an index where only the blocks of values change.
-use Rattle.std.proofs.Common.{◌≡◌, ◌∙◌, ℕ, true, false, ◌+◌, ◌-◌, ◌/◌, ◌<◌, ◌≤◌, max, [], length, get_or, Option, Some, None, sym, ap, subst, refl, arith, inl, inr}
+use Rattle.std.proofs.Common.{◌≡◌, ◌∙◌, ℕ, true, false, ◌-◌, ◌/◌, ◌<◌, ◌≤◌, max, length, get_or, Option, Some, None, sym, ap, subst, refl, arith, inl, inr}
 use Rattle.std.specs.Prelude.{is_some}
 use Rattle.std.specs.List.{All}
 use Rattle.std.proofs.lemmas.Bool.{cases_lt}
-use Rattle.kv_nand.specs.Flash.{Flash, Image, MayProgram}
+use Rattle.kv_nand.specs.Flash.{Flash, Image}
 use Rattle.kssd_layout.specs.Numbers.{region_in, first_value_block_in}
 use Rattle.kssd_layout.specs.declared.region.Region.TheVariants.{Run, Value}
 use Rattle.kssd_model.specs.declared.anchor.Anchor as model
 use Rattle.kssd_model.specs.declared.anchor.Found.{Found}
 use Rattle.kssd_model.specs.Anchors.{newest_in}
-use Rattle.kssd_model.specs.Groups.{Walk, groups_from, rest_from, turn_count}
-use Rattle.kssd_model.specs.Rising.{merged}
+use Rattle.kssd_model.specs.Groups.{Walk}
 use Rattle.kssd_model.proofs.NewestLaws.{newest_same}
-use Rattle.kssd_image.specs.AnchorForm.{IsAnchorForm, blocks_of, anchor_age}
-use Rattle.kssd_image.specs.Stages.{the_anchor, anchor_of, entries_of, log_map, shown_by, shown_in}
-use Rattle.kssd_image.specs.Whole.{IsIndexOf, IsWhole, pages_named, age_in, age_by, age_of, log_of}
+use Rattle.kssd_image.specs.AnchorForm.{IsAnchorForm, anchor_age}
+use Rattle.kssd_image.specs.Stages.{the_anchor, anchor_of, shown_by, shown_in}
+use Rattle.kssd_image.specs.Whole.{IsIndexOf, IsWhole, pages_named, age_in, age_by, age_of}
 use Rattle.kssd_frames.specs.Same.{as_counted, StaysBy}
 use Rattle.kssd_frames.proofs.Places.{region_of_values, run_page_place}
 use Rattle.kssd_frames.proofs.SameImages.{IsSameRun, index_stays}
-use Rattle.kssd_merge.specs.Same.{AreSameIn}
 use Rattle.kssd_index.specs.declared.index.Index.{Index}
-use Rattle.kssd_index.specs.Standing.{IsIndex, table_of}
+use Rattle.kssd_index.specs.Standing.{IsIndex}
 use Rattle.kssd_index.specs.Mapping.{HasIndex}
-use Rattle.kssd_index.proofs.Appending.{ring_page}
-use Rattle.kssd_index.proofs.Runs.{named_is_run, runs_stand}
+use Rattle.kssd_index.proofs.Beside.{index_beside}
 use Rattle.kssd_values.specs.Blocks.{device_of, has_target}
 use Rattle.kssd_values.specs.Pages.{Fills}
 use Rattle.kssd_machine.specs.Names.{are_rising, are_valued}
@@ -50,9 +47,6 @@ runs_same : (blocks : ℕ) (old new : Image) (anchor : model.Anchor) → OnlyVal
 runs_same blocks old new anchor only form = λ k d lt i within.
     let place = run_page_place blocks (get_or anchor.runs k d) i (form.runs k d lt) within in
     ap as_counted (low_same blocks old new _ only (run_is_before blocks _ place.1))
-
-blocks_same : (blocks : ℕ) (old new : Image) (anchor : model.Anchor) → OnlyValues blocks old new → IsAnchorForm blocks anchor → AreSameIn (blocks_of anchor.runs) old new
-blocks_same blocks old new anchor only form page named = low_same blocks old new page only (run_is_before blocks (page / 32) (named_is_run blocks (page / 32) anchor.runs form.runs named))
 
 -- ---- the newest anchor and its index
 
@@ -94,39 +88,9 @@ age_stays blocks old new only has =
 
 -- ---- an index in memory
 
-may_program_stays : (blocks : ℕ) (old new : Image) (page : ℕ) → OnlyValues blocks old new → page < 640 → MayProgram old page → MayProgram new page
-may_program_stays blocks old new page only low may = record {
-  here = ring_same blocks old new page only low ∙ may.here;
-  earlier = λ q same lt e. may.earlier q same lt (sym (ring_same blocks old new q only (omega arith)) ∙ e);
-  later = λ q same lt. ring_same blocks old new q only (omega arith) ∙ may.later q same lt;
-}
-
-table_stays : (old new : Image) (anchor : model.Anchor) → log_of new anchor ≡ log_of old anchor → table_of new anchor ≡ table_of old anchor
-unfolding log_map
-table_stays old new anchor log = ap (λ (w : Walk). merged (entries_of (groups_from [] w.pages)) []) log
-
 pub index_stands : (index : Index) (blocks : ℕ) (old new : Image) → OnlyValues blocks old new → IsIndex index blocks old → IsIndex index blocks new
 index_stands index blocks old new only stands =
-    let root = stands.root in
-    let anchor = index.root.anchor in
-    let same = same_index blocks old new anchor only root.anchored.index in
-    record {
-      root = record {
-        device = root.device;
-        anchored = record { newest = newest_stays blocks old new only ∙ root.anchored.newest; index = same.index };
-        runs = runs_stand index.root.levels anchor blocks old new (blocks_same blocks old new anchor only root.anchored.index.form) root.runs;
-      };
-      log = record {
-        page = ap (λ (w : Walk). w.end) same.log ∙ stands.log.page;
-        number = ap (λ (w : Walk). w.next) same.log ∙ stands.log.number;
-        whole = ap (λ (w : Walk). rest_from [] w.pages) same.log ∙ stands.log.whole;
-        blocks = ap (λ (w : Walk). turn_count w.pages + index.ring.blocks) same.log ∙ stands.log.blocks;
-        free = may_program_stays blocks old new index.ring.page only (ring_page index blocks old stands).high stands.log.free;
-      };
-      table = stands.table ∙ sym (table_stays old new anchor same.log);
-      few = stands.few;
-      numbers = subst (λ n. n ≤ index.age) (sym (age_by_stays blocks old new anchor only root.anchored.index)) stands.numbers;
-    }
+    index_beside index blocks old new (λ page low. low_same blocks old new page only low) stands
 
 -- ---- the device
 

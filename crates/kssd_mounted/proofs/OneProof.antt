@@ -17,7 +17,8 @@ use Rattle.kssd_levels.specs.Runs.{StandRuns}
 use Rattle.kssd_levels.specs.Levels.{StandLevels}
 use Rattle.kssd_log.specs.declared.place.Place.{Place}
 use Rattle.kssd_index.specs.declared.index.Index.{Index}
-use Rattle.kssd_index.specs.Standing.{IsAnchored, AreRuns, EndsAt, IsIndex}
+use Rattle.kssd_index.specs.declared.root.Root.{Root}
+use Rattle.kssd_index.specs.Standing.{IsAnchored, AreRuns, IsRoot, EndsAt, IsIndex}
 use Rattle.kssd_values.specs.declared.filling.Filling.{Filling}
 use Rattle.kssd_values.specs.declared.values.Values.{Values}
 use Rattle.kssd_values.specs.Pages.{FillsBlock, FillsIn, Fills}
@@ -57,11 +58,14 @@ IsAnchored-prop page anchor blocks image = Prim.hlevel (props, IsIndexOf-prop)
 AreRuns-prop : (levels : Levels) (anchor : Anchor) (blocks : ℕ) (image : Image) → IsProp (AreRuns levels anchor blocks image)
 AreRuns-prop levels anchor blocks image = Prim.hlevel (props, levels-prop)
 
+IsRoot-prop : (root : Root) (blocks : ℕ) (image : Image) → IsProp (IsRoot root blocks image)
+IsRoot-prop root blocks image = Prim.hlevel (props, IsAnchored-prop, AreRuns-prop)
+
 EndsAt-prop : (place : Place) (anchor : Anchor) (image : Image) → IsProp (EndsAt place anchor image)
 EndsAt-prop place anchor image = Prim.hlevel props
 
 pub IsIndex-prop : (index : Index) (blocks : ℕ) (image : Image) → IsProp (IsIndex index blocks image)
-IsIndex-prop index blocks image = Prim.hlevel (props, IsAnchored-prop, AreRuns-prop, EndsAt-prop)
+IsIndex-prop index blocks image = Prim.hlevel (props, IsRoot-prop, EndsAt-prop)
 
 FillsBlock-prop : (filling : Filling) (image : Image) → IsProp (FillsBlock filling image)
 FillsBlock-prop filling image = Prim.hlevel props
