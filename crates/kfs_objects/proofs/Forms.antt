@@ -1,12 +1,12 @@
 -- Which keys are of which form.
-use Rattle.std.proofs.Common.{◌≡◌, ◌≢◌, ℕ, ◌+◌, ◌<◌, ◌≤◌, ◌^◌, ◌⊎◌, inl, inr, List, [], ◌∷◌, ◌++◌, length, get_or, take, drop, refl, sym, ◌∙◌, ap, arith, subst}
+use Rattle.std.proofs.Common.{◌≡◌, ℕ, ◌<◌, ◌≤◌, ◌^◌, ◌⊎◌, inl, inr, List, [], ◌∷◌, ◌++◌, length, get_or, take, drop, refl, sym, ◌∙◌, ap, arith, subst}
 use Rattle.std.specs.Int.{w32, w64, from_be_bytes}
 use Rattle.std.proofs.lemmas.List.{length-append, length-drop}
 use Rattle.kfs_objects.specs.declared.keys.ObjectKey.{ObjectKey}
 use Rattle.kfs_objects.specs.declared.keys.ObjectKey.TheVariants.{Super, Inode, Entry, Chunk, Orphan}
-use Rattle.kfs_objects.specs.Keys.{be64, be32, super_key, inode_key, entry_key, chunk_key, orphan_key, IsNamed, IsObjectKey, is_super, is_inode, is_entry, is_chunk, is_orphan}
+use Rattle.kfs_objects.specs.Keys.{be64, be32, IsNamed, IsObjectKey, is_super, is_inode, is_entry, is_chunk, is_orphan}
 use Rattle.kfs_objects.specs.Forms.{SpellsKey, spells_super, spells_inode, spells_entry, spells_chunk, spells_orphan}
-use Rattle.kfs_objects.proofs.KeyLaws.{length_be64, length_be32, same64, same32, same_front, same_rest}
+use Rattle.kfs_objects.proofs.KeyLaws.{length_be64, same64, same32, same_front, same_rest}
 use Rattle.kfs_objects.proofs.Spelling.{Fit, split, front64, is64, is32}
 
 -- a first byte and a length that go together

@@ -1,11 +1,10 @@
 -- Bytes that are read spell what was read.
-use Rattle.std.proofs.Common.{◌≡◌, ℕ, zero, suc, subst, lit<, Some, None, inl, inr, ◌+◌, ◌<◌, ◌≤◌, ◌^◌, List, [], ◌∷◌, ◌++◌, length, get_or, take, drop, refl, sym, ◌∙◌, ap, arith, cond}
+use Rattle.std.proofs.Common.{◌≡◌, ℕ, zero, suc, subst, lit<, None, ◌+◌, ◌<◌, ◌≤◌, ◌^◌, List, [], ◌∷◌, ◌++◌, length, get_or, take, drop, refl, sym, ◌∙◌, ap, arith}
 use Rattle.std.specs.Int.{w32, w64, from_be_bytes}
 use Rattle.std.proofs.lemmas.Nat.{be_bytes_8, be_bytes_4}
 use Rattle.std.proofs.lemmas.List.{take-append-drop, take_all, length-take-le, length-drop, get_or-drop}
-use Rattle.std.proofs.lemmas.Option.{same_Some}
-use Rattle.kfs_objects.specs.Keys.{be64, be32, super_key, inode_key, entry_key, chunk_key, orphan_key, IsNamed, IsObjectKey}
-use Rattle.kfs_objects.specs.Records.{super_value, inode_value, entry_value, read_super, read_inode, read_entry, IsInode, SpellsSuper, SpellsInode, SpellsEntry}
+use Rattle.kfs_objects.specs.Keys.{be64, be32}
+use Rattle.kfs_objects.specs.Records.{read_super, read_inode, read_entry, IsInode, SpellsSuper, SpellsInode, SpellsEntry}
 use Rattle.kfs_objects.proofs.RecordLaws.{read_super_value, read_inode_value, read_entry_value}
 
 -- each byte of a slice is below 256

@@ -1,5 +1,5 @@
 -- Which bytes spell which object's key.
-use Rattle.std.specs.Prelude.{ℕ, ◌≡◌, ◌<◌, ◌^◌, List, drop}
+use Rattle.std.specs.Prelude.{ℕ, ◌<◌, ◌^◌, List}
 use Rattle.kfs_objects.specs.declared.keys.ObjectKey.{ObjectKey}
 use Rattle.kfs_objects.specs.declared.keys.ObjectKey.TheVariants.{Super, Inode, Entry, Chunk, Orphan}
 use Rattle.kfs_objects.specs.Keys.{super_key, inode_key, entry_key, chunk_key, orphan_key, IsNamed}

@@ -3,7 +3,7 @@ ghost use Rattle.kv_base.specs.Sizes.{IsKey};
 ghost use Rattle.kfs_objects.specs.Keys.{super_key, inode_front, inode_key, entry_key, chunk_key, orphan_key, IsNamed, IsObjectKey};
 ghost use Rattle.kfs_objects.specs.Forms.{SpellsKey};
 
-use kv_base::{Key, Memory, be32_at, be64_at};
+use kv_base::{Key, Memory, SizeFault, be32_at, be64_at};
 use std::alloc::Global;
 
 /// What a key is the key of. The name of an entry is what follows the key's first 9 bytes.
@@ -22,7 +22,8 @@ fn key_of(alloc: Global, bytes: &[u8]) -> Result<Key, Memory>
 {
     match Key::new(alloc, bytes) {
         Ok(key) => Ok(key),
-        Err(_) => Err(Memory),
+        Err(SizeFault::Memory) => Err(Memory),
+        Err(SizeFault::BadLength) => unreachable!(),
     }
 }
 

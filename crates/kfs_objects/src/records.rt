@@ -1,16 +1,19 @@
 ghost use Rattle.std.specs.Prelude.{◌≡◌, ◌<◌, ◌^◌, ℕ, IfOk, IfSome, IfNone};
 ghost use Rattle.std.specs.Option.{option_map};
+ghost use Rattle.kv_base.specs.Sizes.{IsValue};
 ghost use Rattle.kfs_objects.specs.Records.{super_value, inode_value, entry_value, orphan_value, read_super, read_inode, read_entry, IsInode, SpellsSuper, SpellsInode, SpellsEntry};
 
-use kv_base::{Memory, Value, be64_at};
+use kv_base::{Memory, SizeFault, Value, be64_at};
 use std::alloc::Global;
 
 fn value_of(alloc: Global, bytes: &[u8]) -> Result<Value, Memory>
+    requires { IsValue bytes.now }
     ensures { IfOk result (λ value. value ≡ bytes.now) }
 {
     match Value::new(alloc, bytes) {
         Ok(value) => Ok(value),
-        Err(_) => Err(Memory),
+        Err(SizeFault::Memory) => Err(Memory),
+        Err(SizeFault::BadLength) => unreachable!(),
     }
 }
 

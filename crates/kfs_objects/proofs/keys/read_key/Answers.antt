@@ -1,5 +1,5 @@
-use Rattle.std.proofs.Common.{◌≡◌, ℕ, get_or, length, refl, rules, arith}
-use Rattle.kfs_objects.proofs.Forms.{formed, IsForm, of_super, of_inode, of_entry, of_chunk, of_orphan}
+use Rattle.std.proofs.Common.{rules, arith}
+use Rattle.kfs_objects.proofs.Forms.{formed, of_super, of_inode, of_entry, of_chunk, of_orphan}
 use Rattle.kfs_objects.proofs.keys.read_key.Goals as goal
 
 pub returns-in-115-eq1-clause-some : goal.returns-in-115-eq1-clause-some

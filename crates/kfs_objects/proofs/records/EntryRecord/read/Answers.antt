@@ -1,4 +1,4 @@
-use Rattle.std.proofs.Common.{refl, rules, arith}
+use Rattle.std.proofs.Common.{rules, arith}
 use Rattle.kfs_objects.proofs.Spelling.{entry_spelled, no_entry}
 use Rattle.kfs_objects.proofs.records.EntryRecord.read.Goals as goal
 

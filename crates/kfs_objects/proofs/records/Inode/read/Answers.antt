@@ -1,4 +1,4 @@
-use Rattle.std.proofs.Common.{refl, rules, arith}
+use Rattle.std.proofs.Common.{rules, arith}
 use Rattle.kfs_objects.proofs.Spelling.{inode_spelled, no_inode}
 use Rattle.kfs_objects.proofs.records.Inode.read.Goals as goal
 

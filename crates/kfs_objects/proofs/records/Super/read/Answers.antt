@@ -1,4 +1,4 @@
-use Rattle.std.proofs.Common.{refl, rules, arith}
+use Rattle.std.proofs.Common.{rules, arith}
 use Rattle.kfs_objects.proofs.Spelling.{super_spelled, no_super}
 use Rattle.kfs_objects.proofs.records.Super.read.Goals as goal
 
