@@ -1,6 +1,7 @@
 //! The contents of files, in chunks of 4,096 bytes.
 #![tactic(auto)]
 
+mod piece;
 mod reading;
 mod removing;
 mod sizing;

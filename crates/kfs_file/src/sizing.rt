@@ -2,10 +2,10 @@ ghost use Rattle.std.specs.Prelude.{◌≡◌, ◌<◌, ◌≤◌, ◌+◌, ◌-
 ghost use Rattle.kfs_tx.specs.Run.{Aged, age_of};
 ghost use Rattle.kfs_file.specs.Contents.{ChangesAtMost, CutFault, CutsFile, Fails, ResizesFile, touched, with_cut};
 
+use crate::piece::value_of;
 use crate::removing::remove_chunks;
 use kfs_objects::chunk_key;
 use kfs_tx::Running;
-use kv_base::{Memory, Value};
 use kv_device::{Device, DeviceFault};
 use std::alloc::Global;
 
@@ -31,9 +31,7 @@ fn cut_piece<D: Device>(
     if bytes.len() <= count {
         return Ok(());
     }
-    let Ok(value) = Value::new(alloc, &bytes[..count]) else {
-        return Err(DeviceFault::Memory);
-    };
+    let value = value_of(alloc, &bytes[..count])?;
     run.set(alloc, &key, &value)
 }
 

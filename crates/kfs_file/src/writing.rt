@@ -1,10 +1,12 @@
 ghost use Rattle.std.specs.Prelude.{◌≡◌, ◌<◌, ◌≤◌, ◌+◌, ◌-◌, ◌*◌, ◌^◌, max, length, IfOk, OnOk, IfErr};
 ghost use Rattle.std.specs.FinMap as objects;
+ghost use Rattle.kv_base.specs.Sizes.{IsValue};
 ghost use Rattle.kfs_objects.specs.Keys.{chunk_key};
 ghost use Rattle.kfs_model.specs.Tree.{written};
 ghost use Rattle.kfs_tx.specs.Run.{Aged, GetFault, age_of, seen};
 ghost use Rattle.kfs_file.specs.Contents.{ChangesAtMost, Fails, PieceFault, WritesFile, piece_in, rewritten, touched, with_piece};
 
+use crate::piece::value_of;
 use kfs_objects::chunk_key;
 use kfs_tx::Running;
 use kv_base::{Memory, Value};
@@ -16,8 +18,10 @@ const CHUNK: usize = 4096;
 
 /// The bytes with the given ones at a place. What lies between is zero.
 fn overwritten(alloc: Global, old: &[u8], start: usize, given: &[u8]) -> Result<Vec<u8>, Memory>
-    requires { start + length given.now ≤ 4096 }
-    ensures { IfOk result (λ bytes. bytes.items ≡ written old.now start given.now) }
+    requires fits { start + length given.now ≤ 4096 }
+    requires old { IsValue old.now }
+    ensures written { IfOk result (λ bytes. bytes.items ≡ written old.now start given.now) }
+    ensures sizes { IfOk result (λ bytes. IsValue bytes.items) }
 {
     let mut bytes = Vec::from_slice(alloc, old)?;
     if bytes.len() < start {
@@ -29,15 +33,6 @@ fn overwritten(alloc: Global, old: &[u8], start: usize, given: &[u8]) -> Result<
         bytes.extend_from_slice(&old[start + given.len()..])?;
     }
     Ok(bytes)
-}
-
-fn value_of(alloc: Global, bytes: &[u8]) -> Result<Value, Memory>
-    ensures { IfOk result (λ value. value ≡ bytes.now) }
-{
-    match Value::new(alloc, bytes) {
-        Ok(value) => Ok(value),
-        Err(_) => Err(Memory),
-    }
 }
 
 /// A chunk's object, with the given bytes at a place. Bytes that fill the chunk are its object, and
