@@ -53,9 +53,8 @@ pub fn add_node(t: &mut Tables, place: Names, node: Node) -> Result<(), Memory>
     let number = t.files.next;
     t.files.nodes.insert(number, node)?;
     if let Err(failed) = t.files.names.insert(place, number) {
-        drop(failed);
         let _ = t.files.nodes.remove(&number);
-        return Err(Memory);
+        return Err(failed.into());
     }
     t.files.next = number + 1;
     Ok(())
