@@ -1,12 +1,16 @@
 -- One line more, with its answer.
 use Rattle.std.proofs.lemmas.List.{take_more}
 use Rattle.std.proofs.lemmas.Grind.{flat_map-append}
-use Rattle.std.proofs.Common.{◌≡◌, ◌<◌, ◌+◌, ◌++◌, ◌∷◌, ◌∙◌, ℕ, List, [], length, take, get_or, sym, ap, subst, append_assoc, append-nil}
+use Rattle.std.proofs.lemmas.List.Sums.{sum_by-append}
+use Rattle.std.specs.List.{count_by}
+use Rattle.std.proofs.Common.{◌≡◌, ◌<◌, ◌+◌, ◌++◌, ◌∷◌, ◌∙◌, ℕ, List, [], length, take, get_or, cond, refl, sym, ap, subst, Bool, true, false, arith, append_assoc, append-nil}
 use Rattle.kfs_model.specs.declared.Line.{Line}
 use Rattle.kfs_model.specs.declared.Answer.{Answer}
 use Rattle.kfs_model.specs.Tree.{Limits}
 use Rattle.kfs_model.specs.Life.{State, Life, Event, newborn, life_more}
+use Rattle.kfs_posix.specs.Showing.{one_if}
 use Rattle.kfs_script.specs.AnswerText.{text_of, texts_of}
+use Rattle.kfs_runner.specs.Strikes.{Strikes, is_cut, is_failure, struck, struck_by}
 
 -- a life goes on by the line at an index
 pub life_at : (k : Limits) (ls : List Line) (i : ℕ) (given : List Answer) (s t : State) (line : Line) (answer : Answer) → i < length ls → line ≡ get_or ls i line → Life k newborn (take i ls) given s → Event k s line answer t → Life k newborn (take (i + 1) ls) (given ++ answer ∷ []) t
@@ -15,8 +19,24 @@ life_at k ls i given s t line answer below is life event =
     let next : take i ls ++ line ∷ [] ≡ take (i + 1) ls = ap (λ l. take i ls ++ l ∷ []) is ∙ sym (take_more ls i line below) in
     subst P next (life_more k newborn s t (take i ls) given line answer life event)
 
+one_counted : (b : Bool) → cond b 1 0 ≡ one_if b
+one_counted true = refl
+one_counted false = refl
+
+counted_one : (p : Answer → Bool) (given : List Answer) (answer : Answer) → count_by p (given ++ answer ∷ []) ≡ count_by p given + one_if (p answer)
+counted_one p given answer = sum_by-append (λ x. cond (p x) 1 0) given (answer ∷ []) ∙ omega (arith, one_counted (p answer))
+
 -- an answer's text stands behind the texts before it
 pub texts_more : (old text new : List ℕ) (given : List Answer) (answer : Answer) → text ≡ old ++ texts_of given → new ≡ text ++ text_of answer → new ≡ old ++ texts_of (given ++ answer ∷ [])
 texts_more old text new given answer before is =
     is ∙ ap (λ t. t ++ text_of answer) before ∙ append_assoc old (texts_of given) (text_of answer)
     ∙ ap (λ t. old ++ t) (ap (λ t. texts_of given ++ t) (sym (append-nil (text_of answer))) ∙ sym (flat_map-append text_of given (answer ∷ [])))
+
+-- the answer is counted with those before it
+pub struck_more : (first old new : Strikes) (given : List Answer) (answer : Answer) → old ≡ struck_by first given → new ≡ struck old answer → new ≡ struck_by first (given ++ answer ∷ [])
+struck_more first old new given answer before is =
+    let cuts : new.cuts ≡ first.cuts + count_by is_cut (given ++ answer ∷ []) =
+    omega (arith, ap (λ (s : Strikes). s.cuts) is, ap (λ (s : Strikes). s.cuts) before, counted_one is_cut given answer) in
+    let faults : new.faults ≡ first.faults + count_by is_failure (given ++ answer ∷ []) =
+    omega (arith, ap (λ (s : Strikes). s.faults) is, ap (λ (s : Strikes). s.faults) before, counted_one is_failure given answer) in
+    λ i. record { cuts = cuts i; faults = faults i }

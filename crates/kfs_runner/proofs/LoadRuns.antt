@@ -25,12 +25,10 @@ use Rattle.kfs_load.proofs.LineLaws.{Place, Idle, Opened, Over, Follow, HoldsOf,
 use Rattle.kfs_load.proofs.Going.{AreOne, Held, IsGoing, call_goes}
 use Rattle.kfs_load.proofs.Counting.{dones_more, errors_more}
 use Rattle.kfs_load.proofs.Named.{named_all}
-use Rattle.kfs_runner.specs.declared.seat.Seat.{Seat}
-use Rattle.kfs_runner.specs.declared.seat.Seat.TheVariants.{Mounted, Bare}
 use Rattle.kfs_runner.specs.declared.load.Tally.{Tally}
 use Rattle.kfs_script.specs.Script.{IsLine, is_format}
-use Rattle.kfs_runner.specs.Seats.{IsDown, shows_seat, seat_limits, seat_age}
-use Rattle.kfs_runner.specs.Numbers.{limits_of}
+use Rattle.kfs_runner.specs.Seats.{Seated, Mounted, Bare, IsDown, shows_seat, seat_limits, seat_age}
+use Rattle.kfs_runner.specs.Numbers.{limits_of, line_age}
 use Rattle.kfs_runner.specs.Load.{numbers_text, lines_text, load_text}
 use Rattle.kfs_runner.specs.Counts.{counted, is_down, Counts, plain_behind, IsCounted}
 
@@ -48,9 +46,9 @@ live_whole b live shows closed marked =
     ap named (ap (tree_at live.past) marked ∙ shows.newest) ∙ named_all live.world.tree all
 
 -- behind a commit with nothing open the tree is that of the mount
-seat_whole : (seat : Seat) (s : State) (live : Live) → shows_seat seat s → s.now ≡ Up live → live.world.desk ≡ empty_desk → live.mark ≡ live.past.count → named (tree_at live.past live.mark) ≡ live.world.tree
+seat_whole : (seat : Seated) (s : State) (live : Live) → shows_seat seat s → s.now ≡ Up live → live.world.desk ≡ empty_desk → live.mark ≡ live.past.count → named (tree_at live.past live.mark) ≡ live.world.tree
 seat_whole (Mounted session) s live shows up closed marked = live_whole session.book live (subst (ShowsNow session.book) up shows.now) closed marked
-seat_whole (Bare device) s live shows up closed marked = absurd (subst IsDown up shows.down)
+seat_whole (Bare m age) s live shows up closed marked = absurd (subst IsDown up shows.down)
 
 -- ---- what holds between the lines
 
@@ -60,7 +58,7 @@ Beside (Idle b) live w tally = w ≡ live.world
 Beside Opened live w tally = w ≡ live.world
 Beside Over live w tally = (w.tree ≡ live.world.tree) × (tally.changes ≡ live.mark)
 
-pub record IsAt (k : Limits) (seat : Seat) (plain : Plain) (tally : Tally) (rest all : List Line) : Type 0 where
+pub record IsAt (k : Limits) (seat : Seated) (plain : Plain) (tally : Tally) (rest all : List Line) : Type 0 where
   pub place : Place
   pub live : Live
   pub own : Live
@@ -79,7 +77,7 @@ pub record IsAt (k : Limits) (seat : Seat) (plain : Plain) (tally : Tally) (rest
 abbrev pub nothing : Tally
 nothing = record { dones = 0; errors = 0; changes = 0 }
 
-pub begins : (seat : Seat) (plain : Plain) (ls : List Line) → shows_seat seat newborn → plain ≡ record { world = first_live.world; limits = seat_limits seat } → Follow (Idle false) ls → IsAt (seat_limits seat) seat plain nothing ls ls
+pub begins : (seat : Seated) (plain : Plain) (ls : List Line) → shows_seat seat newborn → plain ≡ record { world = first_live.world; limits = seat_limits seat } → Follow (Idle false) ls → IsAt (seat_limits seat) seat plain nothing ls ls
 begins seat plain ls shows is follow = record {
   place = Idle false;
   live = first_live;
@@ -99,10 +97,10 @@ begins seat plain ls shows is follow = record {
 
 -- ---- one line more
 
-abbrev pub SeatDoes : Seat → Line → Answer → Seat → Type 0
+abbrev pub SeatDoes : Seated → Line → Answer → Seated → Type 0
 SeatDoes seat line answer new =
     (s : State) → shows_seat seat s → (t : State) × Event (seat_limits seat) s line answer t × shows_seat new t
-    × (seat_limits new ≡ seat_limits seat) × (seat_age new ≤ max (seat_age seat) (2 ^ 62) + 2 ^ 38)
+    × (seat_limits new ≡ seat_limits seat) × (seat_age new ≤ max (seat_age seat) (2 ^ 62) + line_age)
 
 -- a call that was counted is done
 record DoneBy (k : Limits) (s : State) (own : Live) (call : Call) (t : State) (old new : Tally) : Type 0 where
@@ -139,7 +137,7 @@ errors_on : (t u : Tally) (b : Bool) (n m total : ℕ) → u ≡ counted t b →
 errors_on t u true n m total is more all = omega (arith, ap (λ (x : Tally). x.errors) is, more, all)
 errors_on t u false n m total is more all = omega (arith, ap (λ (x : Tally). x.errors) is, more, all)
 
-module _ (k : Limits) (seat new : Seat) (plain : Plain) (tally next : Tally) (rest all : List Line) (answer : Answer) where
+module _ (k : Limits) (seat new : Seated) (plain : Plain) (tally next : Tally) (rest all : List Line) (answer : Answer) where
   happens : (line : Line) (at : IsAt k seat plain tally (line ∷ rest) all) (t : State) → Event (seat_limits seat) at.state line answer t → EventAt k at.state (Up at.own) line answer t
   happens line at t event =
       let L : Limits → Type 0 = λ l. Event l at.state line answer t in
@@ -197,7 +195,7 @@ synced_at (Idle false) own live w tally rest follow held beside = absurd follow
 synced_at Opened own live w tally rest follow held beside = absurd follow
 synced_at Over own live w tally rest follow held beside = absurd follow
 
-module _ (k : Limits) (seat new : Seat) (plain : Plain) (tally next : Tally) (rest all : List Line) (answer : Answer) where
+module _ (k : Limits) (seat new : Seated) (plain : Plain) (tally next : Tally) (rest all : List Line) (answer : Answer) where
   mount_on : IsAt k seat plain tally (lines.Mount ∷ rest) all → SeatDoes seat lines.Mount answer new → Counts tally answer next → IsAt k new plain next rest all
   mount_on at does counts =
       let went = does at.state at.shows in
@@ -245,7 +243,7 @@ no_fail Opened kind n rest follow = follow
 no_fail Over kind n rest follow = follow
 
 -- a line was done and counted
-pub goes_on : (k : Limits) (seat new : Seat) (plain : Plain) (tally next : Tally) (line : Line) (rest all : List Line) (answer : Answer)
+pub goes_on : (k : Limits) (seat new : Seated) (plain : Plain) (tally next : Tally) (line : Line) (rest all : List Line) (answer : Answer)
     → IsAt k seat plain tally (line ∷ rest) all → SeatDoes seat line answer new → Counts tally answer next → IsAt k new (plain_behind plain line) next rest all
 goes_on k seat new plain tally next (lines.Call call) rest all answer at does counts = call_on k seat new plain tally next rest all answer call at does counts
 goes_on k seat new plain tally next lines.Mount rest all answer at does counts = mount_on k seat new plain tally next rest all answer at does counts
@@ -261,7 +259,7 @@ over (Idle false) live w tally follow beside = absurd follow
 over Opened live w tally follow beside = absurd follow
 over Over live w tally follow beside = beside
 
-pub ends : (k : Limits) (seat : Seat) (plain : Plain) (tally : Tally) (all : List Line) → IsAt k seat plain tally [] all → IsCounted k all tally (totals_of plain.world.tree)
+pub ends : (k : Limits) (seat : Seated) (plain : Plain) (tally : Tally) (all : List Line) → IsAt k seat plain tally [] all → IsCounted k all tally (totals_of plain.world.tree)
 ends k seat plain tally all at =
     let done = over at.place at.live plain.world tally at.follow at.beside in
     record {

@@ -4,16 +4,15 @@ use Rattle.std.specs.Prelude.{IsTrue, ◌&&◌}
 use Rattle.std.proofs.lemmas.Bool.Decides.{nat_tests}
 use Rattle.kv_base.specs.Counts.{one_more}
 use Rattle.kv_device.specs.Objects.{Objects}
-use Rattle.kv_device.specs.Machine.{Machine, restarted, begun, fresh, with_most_cuts, with_most_faults}
-use Rattle.kv_device.specs.MapDevice.{machine_of}
+use Rattle.kv_device.specs.Machine.{Machine, down, restarted, begun, with_most_cuts, with_most_faults}
 use Rattle.kv_device.specs.Calls.{Ages}
-use Rattle.kv_device.specs.declared.map_device.MapDevice.{MapDevice}
 use Rattle.kfs_path.specs.declared.call.Call.{Call}
 use Rattle.kfs_path.specs.declared.call.Cause.{Cause}
 use Rattle.kfs_path.specs.declared.call.Cause.TheVariants as causes
 use Rattle.kfs_path.specs.declared.call.Reply.{Reply}
 use Rattle.kfs_path.specs.declared.call.Reply.TheVariants as replies
 use Rattle.kfs_model.specs.declared.Line.TheVariants as lines
+use Rattle.kfs_model.specs.declared.Answer.{Answer}
 use Rattle.kfs_model.specs.declared.Answer.TheVariants as answers
 use Rattle.kfs_model.specs.Desk.{empty_desk}
 use Rattle.kfs_model.specs.Tree.{Tree, Limits, root_alone, number_at, has_room}
@@ -27,15 +26,16 @@ use Rattle.kfs_core.specs.declared.fault.HostFault.TheVariants.{Damaged, Cut, Ei
 use Rattle.kfs_core.specs.Clearing.{Keeps}
 use Rattle.kfs_core.proofs.Cleared.{kept_all}
 use Rattle.kfs_posix.proofs.Mounting.{saved_still}
-use Rattle.kfs_core.specs.Starting.{NotMounted, formatted, first_objects}
+use Rattle.kfs_core.specs.Starting.{NotMounted, HostCause, first_objects}
 use Rattle.kfs_posix.specs.Answering.{Counts}
 use Rattle.kfs_posix.specs.Book.{Book, SessionState, limits_of, running_in}
 use Rattle.kfs_posix.specs.Showing.{ShowsLive, ShowsNow, ShowsState, IsSaved, GoesOn, one_if}
 use Rattle.kfs_posix.specs.Mounting.{limits_in, Mounts}
-use Rattle.kfs_runner.specs.declared.seat.Seat.{Seat}
-use Rattle.kfs_runner.specs.declared.seat.Seat.TheVariants.{Mounted, Bare}
 use Rattle.kfs_runner.specs.Causes.{cause_of_host}
-use Rattle.kfs_runner.specs.Seats.{AreArmed, StandsAt, Stores, IsDown, ShowsBare, Shown, shows_seat, seat_limits, seat_machine, seat_age, most_of, SeatGoes}
+use Rattle.kfs_runner.specs.Numbers.{line_age}
+use Rattle.kfs_runner.specs.Stores.{NotWoken}
+use Rattle.kfs_runner.specs.Strikes.{Strikes, strikes_of, struck, is_cut, is_failure}
+use Rattle.kfs_runner.specs.Seats.{Seated, Mounted, Bare, AreArmed, StandsAt, Stores, IsDown, ShowsBare, Shown, IsNew, shows_seat, seat_limits, seat_machine, seat_strikes, seat_age, device_age, most_of, SeatGoes}
 
 -- ---- what is shown is stored
 
@@ -61,23 +61,23 @@ armed_session b s shows = record {
   few_faults = shows.few_faults;
 }
 
-seat_stores : (seat : Seat) (s : State) → shows_seat seat s → Stores (seat_machine seat) s
+pub seat_stores : (seat : Seated) (s : State) → shows_seat seat s → Stores (seat_machine seat) s
 seat_stores (Mounted session) s shows =
     let it = stores_now session.book s.now shows.now in
     record { past = it.0; k = it.1; stands = it.2; saved = it.3; armed = armed_session session.book s shows }
-seat_stores (Bare device) s shows = shows.stores
+seat_stores (Bare m age) s shows = shows.stores
 
-seat_room : (seat : Seat) (s : State) → shows_seat seat s → seat_limits seat ≡ limits_in (seat_machine seat)
+seat_room : (seat : Seated) (s : State) → shows_seat seat s → seat_limits seat ≡ limits_in (seat_machine seat)
 seat_room (Mounted session) s shows = limits_now session.book s.now shows.now
-seat_room (Bare device) s shows = refl
+seat_room (Bare m age) s shows = refl
 
 -- a seat that shows something has a device with its room
-pub seat_keys : (seat : Seat) → Shown seat → (seat_limits seat).keys ≡ (seat_machine seat).room_keys
+pub seat_keys : (seat : Seated) → Shown seat → (seat_limits seat).keys ≡ (seat_machine seat).room_keys
 seat_keys seat shown = ap (λ (l : Limits). l.keys) (seat_room seat shown.0 shown.1)
 
-most_le : (seat : Seat) → most_of (seat_machine seat) ≤ seat_age seat
+most_le : (seat : Seated) → most_of (seat_machine seat) ≤ seat_age seat
 most_le (Mounted session) = omega arith
-most_le (Bare device) = omega arith
+most_le (Bare m age) = omega arith
 
 one_if_le : (armed : Bool) → one_if armed ≤ 1
 one_if_le true = omega arith
@@ -110,12 +110,21 @@ shows_up m now s b live armed shows is =
       few_faults = subst FewFaults (sym is) armed.few_faults;
     }
 
-mount_age : (device changes next cuts faults old : ℕ) → device ≤ 2 ^ 38 → changes < 2 ^ 62 → next < 2 ^ 62 → max cuts faults ≤ old → max (max device (max changes next)) (max cuts faults) ≤ max old (2 ^ 62) + 2 ^ 38
+mount_age : (device changes next cuts faults old : ℕ) → device ≤ 2 ^ 62 + line_age → changes < 2 ^ 62 → next < 2 ^ 62 → max cuts faults ≤ old → max (max device (max changes next)) (max cuts faults) ≤ max old (2 ^ 62) + line_age
 mount_age device changes next cuts faults old a b c d = omega arith
 
+-- counts that stayed
+unstruck : (old new : Machine) (answer : Answer) → is_cut answer ≡ false → is_failure answer ≡ false → new.cuts ≡ old.cuts → new.faults ≡ old.faults → strikes_of new ≡ struck (strikes_of old) answer
+unstruck old new answer no_cut no_failure cuts faults =
+    let c : one_if (is_cut answer) ≡ 0 = ap one_if no_cut in
+    let f : one_if (is_failure answer) ≡ 0 = ap one_if no_failure in
+    let cuts_now : new.cuts ≡ old.cuts + one_if (is_cut answer) = omega (arith, cuts, c) in
+    let faults_now : new.faults ≡ old.faults + one_if (is_failure answer) = omega (arith, faults, f) in
+    λ i. record { cuts = cuts_now i; faults = faults_now i }
+
 -- a mount goes on from what the device stores
-pub mount_goes : (seat : Seat) (m : Machine) (new : SessionState) (n : ℕ) → m ≡ restarted (seat_machine seat) → Mounts m new.book → new.book.run.machine ≡ begun (record m { stable = new.book.run.machine.stable }) 0 → new.book.run.changes < 2 ^ 62 → new.book.run.next < 2 ^ 62 → Ages 0 new.device_age (2 ^ 38) → n ≡ new.book.run.changes → SeatGoes seat lines.Mount (answers.Mounted n) (Mounted new)
-mount_goes seat m new n up mounts begins changes next aged is =
+pub mount_goes : (seat : Seated) (m : Machine) (new : SessionState) (n device : ℕ) → m ≡ restarted (seat_machine seat) → Mounts m new.book → new.book.run.machine ≡ begun (record m { stable = new.book.run.machine.stable }) 0 → new.book.run.changes < 2 ^ 62 → new.book.run.next < 2 ^ 62 → device ≤ device_age seat + 2 ^ 20 → device_age seat < 2 ^ 62 → Ages device new.device_age (2 ^ 38) → n ≡ new.book.run.changes → SeatGoes seat lines.Mount (answers.Mounted n) (Mounted new)
+mount_goes seat m new n device up mounts begins changes next woken low aged is =
     let P : Machine → Type 0 = λ x. Mounts x new.book in
     let here = subst P up mounts in
     let now = new.book.run.machine.stable in
@@ -124,7 +133,8 @@ mount_goes seat m new n up mounts begins changes next aged is =
     let faults : new.book.run.machine.most_faults ≡ (seat_machine seat).most_faults = ap (λ (x : Machine). x.most_faults) machine in
     let most = most_le seat in
     let most_new : max new.book.run.machine.most_cuts new.book.run.machine.most_faults ≤ seat_age seat = omega (arith, cuts, faults, most) in
-    let young : new.device_age ≤ 2 ^ 38 = omega (arith, aged.bounded) in
+    let aged_by : new.device_age ≤ device_age seat + line_age = omega (arith, aged.bounded, woken) in
+    let young : new.device_age ≤ 2 ^ 62 + line_age = omega (arith, aged_by, low) in
     record {
       each = λ s shows.
           let st = seat_stores seat s shows in
@@ -135,6 +145,8 @@ mount_goes seat m new n up mounts begins changes next aged is =
             limits_now new.book (Up (up_at st.past st.k)) got.1 ∙ ap limits_in machine ∙ sym (seat_room seat s shows),
             mount_age new.device_age new.book.run.changes new.book.run.next new.book.run.machine.most_cuts new.book.run.machine.most_faults (seat_age seat) young changes next most_new,
           );
+      device = aged_by;
+      strikes = unstruck (seat_machine seat) new.book.run.machine (answers.Mounted n) refl refl (ap (λ (x : Machine). x.cuts) machine) (ap (λ (x : Machine). x.faults) machine);
     }
 
 -- ---- a mount that fails
@@ -232,22 +244,89 @@ failed l m new s NoMem st not =
       }),
     )
 
--- a mount that fails leaves what the device stores
-pub mount_falls : (seat : Seat) (m : Machine) (device : MapDevice) (fault : HostFault) (cause : Cause) → m ≡ restarted (seat_machine seat) → NotMounted m fault (machine_of device) → cause ≡ cause_of_host fault → SeatGoes seat lines.Mount (answers.Reply (replies.Down cause)) (Bare device)
-mount_falls seat m device fault cause up not is =
-    let P : Machine → Type 0 = λ x. NotMounted x fault (machine_of device) in
-    let here = subst P up not in
-    let Q : Cause → Type 0 = λ c. SeatGoes seat lines.Mount (answers.Reply (replies.Down c)) (Bare device) in
+-- a device without a session stores the same however it is down
+still_not_mounted : (old new : Machine) (fault : HostFault) → NotMounted old fault new → NotMounted old fault (down new)
+still_not_mounted old new (Damaged damage) not = absurd not.cause
+still_not_mounted old new Cut not = record { cause = not.cause; keeps = not.keeps; bounds = record { most_cuts = not.bounds.most_cuts; most_faults = not.bounds.most_faults; room_keys = not.bounds.room_keys; room_pages = not.bounds.room_pages } }
+still_not_mounted old new Eio not = record { cause = not.cause; keeps = not.keeps; bounds = record { most_cuts = not.bounds.most_cuts; most_faults = not.bounds.most_faults; room_keys = not.bounds.room_keys; room_pages = not.bounds.room_pages } }
+still_not_mounted old new NoMem not = record { cause = not.cause; keeps = not.keeps; bounds = record { most_cuts = not.bounds.most_cuts; most_faults = not.bounds.most_faults; room_keys = not.bounds.room_keys; room_pages = not.bounds.room_pages } }
+
+keeps_same : (m : Objects) → Keeps m m
+keeps_same m = record { each = λ t k tree low shows. (t, kept_all t tree, tree, shows) }
+
+-- what could not be woken is not mounted
+woken_not : (old new : Machine) (fault : HostFault) → NotWoken old fault new → NotMounted (restarted old) fault new
+woken_not old new fault not =
+    let K : Objects → Type 0 = λ o. Keeps old.stable o in
+    record {
+      cause = cause_again fault not.cause;
+      keeps = subst K (sym (ap (λ (x : Machine). x.stable) not.same)) (keeps_same old.stable);
+      bounds = record {
+        most_cuts = ap (λ (x : Machine). x.most_cuts) not.same;
+        most_faults = ap (λ (x : Machine). x.most_faults) not.same;
+        room_keys = ap (λ (x : Machine). x.room_keys) not.same;
+        room_pages = ap (λ (x : Machine). x.room_pages) not.same;
+      };
+    }
+  where
+    cause_again : (fault : HostFault) → HostCause old fault new → HostCause (restarted old) fault new
+    cause_again (Damaged damage) c = absurd c
+    cause_again Cut c = c
+    cause_again Eio c = c
+    cause_again NoMem c = c
+
+-- the answer tells the count that rose
+struck_by_fault : (old new : Machine) (fault : HostFault) → old.cuts < 2 ^ 63 → old.faults < 2 ^ 63 → HostCause old fault new → strikes_of new ≡ struck (strikes_of old) (answers.Reply (replies.Down (cause_of_host fault)))
+struck_by_fault old new (Damaged damage) low_cuts low_faults c = absurd c
+struck_by_fault old new Cut low_cuts low_faults c =
+    let cuts : new.cuts ≡ old.cuts + 1 = omega (arith, c.0.1, low_cuts) in
+    let faults : new.faults ≡ old.faults + 0 = omega (arith, c.1) in
+    λ i. record { cuts = cuts i; faults = faults i }
+struck_by_fault old new Eio low_cuts low_faults c =
+    let cuts : new.cuts ≡ old.cuts + 0 = omega (arith, c.1) in
+    let faults : new.faults ≡ old.faults + 1 = omega (arith, c.0.1, low_faults) in
+    λ i. record { cuts = cuts i; faults = faults i }
+struck_by_fault old new NoMem low_cuts low_faults c =
+    let cuts : new.cuts ≡ old.cuts + 0 = omega (arith, c.0) in
+    let faults : new.faults ≡ old.faults + 0 = omega (arith, c.1) in
+    λ i. record { cuts = cuts i; faults = faults i }
+
+-- what is shown has few counts
+low_counts : (seat : Seated) → Shown seat → ((seat_machine seat).cuts < 2 ^ 63) × ((seat_machine seat).faults < 2 ^ 63)
+low_counts seat shown =
+    let armed = (seat_stores seat shown.0 shown.1).armed in
+    (omega (arith, armed.most_cuts, armed.few_cuts), omega (arith, armed.most_faults, armed.few_faults))
+
+falls_to : (seat : Seated) (new : Machine) (fault : HostFault) (age : ℕ) → Shown seat → NotMounted (restarted (seat_machine seat)) fault new → age ≤ device_age seat + line_age → SeatGoes seat lines.Mount (answers.Reply (replies.Down (cause_of_host fault))) (Bare new age)
+falls_to seat new fault age shown here aged =
     let cuts = here.bounds.most_cuts in
     let faults = here.bounds.most_faults in
     let most = most_le seat in
-    let same : limits_in (machine_of device) ≡ limits_in (seat_machine seat) = λ i. record { keys = here.bounds.room_keys i; pages = here.bounds.room_pages i } in
-    let young : most_of (machine_of device) ≤ max (seat_age seat) (2 ^ 62) + 2 ^ 38 = omega (arith, cuts, faults, most) in
-    subst Q (sym is) (record {
+    let low = low_counts seat shown in
+    let same : limits_in new ≡ limits_in (seat_machine seat) = λ i. record { keys = here.bounds.room_keys i; pages = here.bounds.room_pages i } in
+    let young : most_of new ≤ max (seat_age seat) (2 ^ 62) + line_age = omega (arith, cuts, faults, most) in
+    record {
       each = λ s shows.
-          let it = failed (seat_limits seat) (seat_machine seat) (machine_of device) s fault (seat_stores seat s shows) here in
+          let it = failed (seat_limits seat) (seat_machine seat) new s fault (seat_stores seat s shows) here in
           (it.0, it.1, it.2, same ∙ sym (seat_room seat s shows), young);
-    })
+      device = aged;
+      strikes = struck_by_fault (restarted (seat_machine seat)) new fault low.0 low.1 here.cause;
+    }
+
+-- a mount that fails leaves what the device stores
+pub mount_falls : (seat : Seated) (m new store : Machine) (fault : HostFault) (cause : Cause) (age : ℕ) → Shown seat → m ≡ restarted (seat_machine seat) → NotMounted m fault new → store ≡ down new → age ≤ device_age seat + line_age → cause ≡ cause_of_host fault → SeatGoes seat lines.Mount (answers.Reply (replies.Down cause)) (Bare store age)
+mount_falls seat m new store fault cause age shown up not rests aged is =
+    let P : Machine → Type 0 = λ x. NotMounted x fault new in
+    let Q : Cause → Type 0 = λ c. SeatGoes seat lines.Mount (answers.Reply (replies.Down c)) (Bare store age) in
+    let R : Machine → Type 0 = λ x. NotMounted (restarted (seat_machine seat)) fault x in
+    subst Q (sym is) (falls_to seat store fault age shown (subst R (sym rests) (still_not_mounted (restarted (seat_machine seat)) new fault (subst P up not))) aged)
+
+-- so does a device that can't be woken
+pub wake_falls : (seat : Seated) (old new : Machine) (fault : HostFault) (cause : Cause) (age : ℕ) → Shown seat → down old ≡ down (seat_machine seat) → NotWoken old fault new → age ≤ device_age seat + line_age → cause ≡ cause_of_host fault → SeatGoes seat lines.Mount (answers.Reply (replies.Down cause)) (Bare new age)
+wake_falls seat old new fault cause age shown rests not aged is =
+    let P : Machine → Type 0 = λ x. NotMounted x fault new in
+    let Q : Cause → Type 0 = λ c. SeatGoes seat lines.Mount (answers.Reply (replies.Down c)) (Bare new age) in
+    subst Q (sym is) (falls_to seat new fault age shown (subst P (ap restarted rests) (woken_not old new fault not)) aged)
 
 -- ---- a call
 
@@ -256,26 +335,43 @@ counts_le old (replies.Down causes.Cut) new c cuts faults = (c.0.0, omega (arith
 counts_le old (replies.Down causes.Eio) new c cuts faults = (omega (arith, c.1), c.0.0)
 counts_le old reply new c cuts faults = (omega (arith, c.0), omega (arith, c.1))
 
-call_age : (old_age new_age old_cuts old_faults cuts faults : ℕ) → new_age ≤ old_age + 2 ^ 38 → cuts ≤ old_cuts + 1 → faults ≤ old_faults + 1 → max new_age (max cuts faults) ≤ max (max old_age (max old_cuts old_faults)) (2 ^ 62) + 2 ^ 38
+call_age : (old_age new_age old_cuts old_faults cuts faults : ℕ) → new_age ≤ old_age + 2 ^ 38 → cuts ≤ old_cuts + 1 → faults ≤ old_faults + 1 → max new_age (max cuts faults) ≤ max (max old_age (max old_cuts old_faults)) (2 ^ 62) + line_age
 call_age old_age new_age old_cuts old_faults cuts faults a b c = omega arith
 
-pub call_goes : (old new : SessionState) (call : Call) (reply : Reply) → GoesOn old.book (lines.Call call) (answers.Reply reply) new.book → Counts old.book.run.machine reply new.book.run.machine → limits_of new.book ≡ limits_of old.book → Aged (running_in old) (running_in new) (2 ^ 38) → SeatGoes (Mounted old) (lines.Call call) (answers.Reply reply) (Mounted new)
-call_goes old new call reply goes counts room aged = record {
-  each = λ s shows.
-      let it = goes.each s shows in
-      let few = counts_le old.book.run.machine reply new.book.run.machine counts shows.most_cuts shows.most_faults in
-      let cuts : new.book.run.machine.most_cuts ≤ old.book.run.machine.most_cuts + 1 = omega (arith, it.2.cuts, one_if_le it.0.cut_armed, few.0) in
-      let faults : new.book.run.machine.most_faults ≤ old.book.run.machine.most_faults + 1 = omega (arith, it.2.faults, one_if_le it.0.fail_armed, few.1) in
-      (it.0, it.1, it.2, room, call_age (age_of (running_in old)) (age_of (running_in new)) old.book.run.machine.most_cuts old.book.run.machine.most_faults new.book.run.machine.most_cuts new.book.run.machine.most_faults aged.whole.bounded cuts faults);
-}
+struck_by_reply : (old new : Machine) (reply : Reply) → old.cuts < 2 ^ 63 → old.faults < 2 ^ 63 → Counts old reply new → strikes_of new ≡ struck (strikes_of old) (answers.Reply reply)
+struck_by_reply old new (replies.Down causes.Cut) low_cuts low_faults c =
+    let cuts : new.cuts ≡ old.cuts + 1 = omega (arith, c.0.1, low_cuts) in
+    let faults : new.faults ≡ old.faults + 0 = omega (arith, c.1) in
+    λ i. record { cuts = cuts i; faults = faults i }
+struck_by_reply old new (replies.Down causes.Eio) low_cuts low_faults c =
+    let cuts : new.cuts ≡ old.cuts + 0 = omega (arith, c.1) in
+    let faults : new.faults ≡ old.faults + 1 = omega (arith, c.0.1, low_faults) in
+    λ i. record { cuts = cuts i; faults = faults i }
+struck_by_reply old new reply low_cuts low_faults c = unstruck old new (answers.Reply reply) refl refl c.0 c.1
+
+pub call_goes : (old new : SessionState) (call : Call) (reply : Reply) → Shown (Mounted old) → GoesOn old.book (lines.Call call) (answers.Reply reply) new.book → Counts old.book.run.machine reply new.book.run.machine → limits_of new.book ≡ limits_of old.book → Aged (running_in old) (running_in new) (2 ^ 38) → SeatGoes (Mounted old) (lines.Call call) (answers.Reply reply) (Mounted new)
+call_goes old new call reply shown goes counts room aged =
+    let low = low_counts (Mounted old) shown in
+    record {
+      each = λ s shows.
+          let it = goes.each s shows in
+          let few = counts_le old.book.run.machine reply new.book.run.machine counts shows.most_cuts shows.most_faults in
+          let cuts : new.book.run.machine.most_cuts ≤ old.book.run.machine.most_cuts + 1 = omega (arith, it.2.cuts, one_if_le it.0.cut_armed, few.0) in
+          let faults : new.book.run.machine.most_faults ≤ old.book.run.machine.most_faults + 1 = omega (arith, it.2.faults, one_if_le it.0.fail_armed, few.1) in
+          (it.0, it.1, it.2, room, call_age (age_of (running_in old)) (age_of (running_in new)) old.book.run.machine.most_cuts old.book.run.machine.most_faults new.book.run.machine.most_cuts new.book.run.machine.most_faults aged.whole.bounded cuts faults);
+      device = omega (arith, aged.device.bounded);
+      strikes = struck_by_reply old.book.run.machine new.book.run.machine reply low.0 low.1 counts;
+    }
 
 off_at : (l : Limits) (s : State) (now : Now) (call : Call) → IsDown now → EventAt l s now (lines.Call call) (answers.Reply replies.Off) s
 off_at l s (Up live) call down = absurd down
 off_at l s (Down past may) call down = (refl, refl)
 
-pub off_goes : (device : MapDevice) (call : Call) → SeatGoes (Bare device) (lines.Call call) (answers.Reply replies.Off) (Bare device)
-off_goes device call = record {
-  each = λ s shows. (s, off_at (seat_limits (Bare device)) s s.now call shows.down, shows, refl, omega arith);
+pub off_goes : (m : Machine) (age : ℕ) (call : Call) → SeatGoes (Bare m age) (lines.Call call) (answers.Reply replies.Off) (Bare m age)
+off_goes m age call = record {
+  each = λ s shows. (s, off_at (seat_limits (Bare m age)) s s.now call shows.down, shows, refl, omega arith);
+  device = omega arith;
+  strikes = unstruck m m (answers.Reply replies.Off) refl refl refl refl;
 }
 
 -- ---- plans
@@ -294,11 +390,13 @@ fail_at : (l : Limits) (s : State) (now : Now) (kind n : ℕ) → EventAt l s no
 fail_at l s (Up live) kind n = (refl, refl)
 fail_at l s (Down past may) kind n = (refl, refl)
 
-plan_age : (old_age new_age old_cuts old_faults cuts faults : ℕ) → new_age ≡ old_age → cuts ≤ old_cuts + 1 → faults ≤ old_faults + 1 → max new_age (max cuts faults) ≤ max (max old_age (max old_cuts old_faults)) (2 ^ 62) + 2 ^ 38
+plan_age : (old_age new_age old_cuts old_faults cuts faults : ℕ) → new_age ≡ old_age → cuts ≤ old_cuts + 1 → faults ≤ old_faults + 1 → max new_age (max cuts faults) ≤ max (max old_age (max old_cuts old_faults)) (2 ^ 62) + line_age
 plan_age old_age new_age old_cuts old_faults cuts faults a b c = omega arith
 
-pub cut_goes : (old new : SessionState) (n how : ℕ) → (old.book.run.machine.cuts + 1 < 2 ^ 63 → GoesOn old.book (lines.Cut n how) (answers.Reply replies.Done) new.book) → new.book.run.machine ≡ with_most_cuts old.book.run.machine → limits_of new.book ≡ limits_of old.book → age_of (running_in new) ≡ age_of (running_in old) → seat_age (Mounted old) < 2 ^ 63 - 2 ^ 40 → SeatGoes (Mounted old) (lines.Cut n how) (answers.Reply replies.Done) (Mounted new)
-cut_goes old new n how goes planned room same young = record {
+pub cut_goes : (old new : SessionState) (n how : ℕ) → (old.book.run.machine.cuts + 1 < 2 ^ 63 → GoesOn old.book (lines.Cut n how) (answers.Reply replies.Done) new.book) → new.book.run.machine ≡ with_most_cuts old.book.run.machine → limits_of new.book ≡ limits_of old.book → age_of (running_in new) ≡ age_of (running_in old) → new.device_age ≡ old.device_age → seat_age (Mounted old) < 2 ^ 63 - 2 ^ 40 → SeatGoes (Mounted old) (lines.Cut n how) (answers.Reply replies.Done) (Mounted new)
+cut_goes old new n how goes planned room same device young = record {
+  device = omega (arith, device);
+  strikes = unstruck old.book.run.machine new.book.run.machine (answers.Reply replies.Done) refl refl (ap (λ (x : Machine). x.cuts) planned) (ap (λ (x : Machine). x.faults) planned);
   each = λ s shows.
       let most = most_le (Mounted old) in
       let few : old.book.run.machine.cuts + 1 < 2 ^ 63 = omega (arith, shows.most_cuts, most, young) in
@@ -308,8 +406,10 @@ cut_goes old new n how goes planned room same young = record {
       (it.0, it.1, it.2, room, plan_age (age_of (running_in old)) (age_of (running_in new)) old.book.run.machine.most_cuts old.book.run.machine.most_faults new.book.run.machine.most_cuts new.book.run.machine.most_faults same cuts faults);
 }
 
-pub fail_goes : (old new : SessionState) (kind n : ℕ) → (old.book.run.machine.faults + 1 < 2 ^ 63 → GoesOn old.book (lines.Fail kind n) (answers.Reply replies.Done) new.book) → new.book.run.machine ≡ with_most_faults old.book.run.machine new.book.run.machine.most_faults → new.book.run.machine.most_faults ≤ one_more old.book.run.machine.faults → limits_of new.book ≡ limits_of old.book → age_of (running_in new) ≡ age_of (running_in old) → seat_age (Mounted old) < 2 ^ 63 - 2 ^ 40 → SeatGoes (Mounted old) (lines.Fail kind n) (answers.Reply replies.Done) (Mounted new)
-fail_goes old new kind n goes planned bound room same young = record {
+pub fail_goes : (old new : SessionState) (kind n : ℕ) → (old.book.run.machine.faults + 1 < 2 ^ 63 → GoesOn old.book (lines.Fail kind n) (answers.Reply replies.Done) new.book) → new.book.run.machine ≡ with_most_faults old.book.run.machine new.book.run.machine.most_faults → new.book.run.machine.most_faults ≤ one_more old.book.run.machine.faults → limits_of new.book ≡ limits_of old.book → age_of (running_in new) ≡ age_of (running_in old) → new.device_age ≡ old.device_age → seat_age (Mounted old) < 2 ^ 63 - 2 ^ 40 → SeatGoes (Mounted old) (lines.Fail kind n) (answers.Reply replies.Done) (Mounted new)
+fail_goes old new kind n goes planned bound room same device young = record {
+  device = omega (arith, device);
+  strikes = unstruck old.book.run.machine new.book.run.machine (answers.Reply replies.Done) refl refl (ap (λ (x : Machine). x.cuts) planned) (ap (λ (x : Machine). x.faults) planned);
   each = λ s shows.
       let most = most_le (Mounted old) in
       let few : old.book.run.machine.faults + 1 < 2 ^ 63 = omega (arith, shows.most_faults, most, young) in
@@ -331,8 +431,8 @@ restored m new s t st stable room now down armed =
       stores = record { past = st.past; k = st.k; stands = subst A (sym now) st.stands; saved = subst O (sym stable) (subst L (sym room) st.saved); armed = armed };
     }
 
-pub bare_cut : (old new : MapDevice) (n how : ℕ) → machine_of new ≡ with_most_cuts (machine_of old) → seat_age (Bare old) < 2 ^ 63 - 2 ^ 40 → SeatGoes (Bare old) (lines.Cut n how) (answers.Reply replies.Done) (Bare new)
-bare_cut old new n how planned young =
+pub bare_cut : (m new : Machine) (age age_now n how : ℕ) → new ≡ with_most_cuts m → age_now ≡ age → seat_age (Bare m age) < 2 ^ 63 - 2 ^ 40 → SeatGoes (Bare m age) (lines.Cut n how) (answers.Reply replies.Done) (Bare new age_now)
+bare_cut m new age age_now n how planned same young =
     let most = ap (λ (x : Machine). x.most_cuts) planned in
     let others = ap (λ (x : Machine). x.most_faults) planned in
     let cuts = ap (λ (x : Machine). x.cuts) planned in
@@ -340,10 +440,10 @@ bare_cut old new n how planned young =
     record {
       each = λ s shows.
           let armed = shows.stores.armed in
-          let few : (machine_of old).cuts + 1 < 2 ^ 63 = omega (arith, armed.most_cuts, young) in (
+          let few : m.cuts + 1 < 2 ^ 63 = omega (arith, armed.most_cuts, young) in (
             cut_armed s,
-            cut_at (seat_limits (Bare old)) s s.now n how,
-            restored (machine_of old) (machine_of new) s (cut_armed s) shows.stores (ap (λ (x : Machine). x.stable) planned) (ap limits_in planned) refl shows.down (record {
+            cut_at (seat_limits (Bare m age)) s s.now n how,
+            restored m new s (cut_armed s) shows.stores (ap (λ (x : Machine). x.stable) planned) (ap limits_in planned) refl shows.down (record {
               cuts = omega (arith, most, cuts);
               faults = omega (arith, others, faults, armed.faults);
               most_cuts = omega (arith, most, cuts, few);
@@ -354,20 +454,22 @@ bare_cut old new n how planned young =
             ap limits_in planned,
             omega (arith, most, others, armed.most_cuts),
           );
+      device = omega (arith, same);
+      strikes = unstruck m new (answers.Reply replies.Done) refl refl cuts faults;
     }
 
-pub bare_fail : (old new : MapDevice) (kind n : ℕ) → machine_of new ≡ with_most_faults (machine_of old) (machine_of new).most_faults → (machine_of old).faults ≤ (machine_of new).most_faults → (machine_of new).most_faults ≤ one_more (machine_of old).faults → seat_age (Bare old) < 2 ^ 63 - 2 ^ 40 → SeatGoes (Bare old) (lines.Fail kind n) (answers.Reply replies.Done) (Bare new)
-bare_fail old new kind n planned least bound young =
+pub bare_fail : (m new : Machine) (age age_now kind n : ℕ) → new ≡ with_most_faults m new.most_faults → m.faults ≤ new.most_faults → new.most_faults ≤ one_more m.faults → age_now ≡ age → seat_age (Bare m age) < 2 ^ 63 - 2 ^ 40 → SeatGoes (Bare m age) (lines.Fail kind n) (answers.Reply replies.Done) (Bare new age_now)
+bare_fail m new age age_now kind n planned least bound same young =
     let others = ap (λ (x : Machine). x.most_cuts) planned in
     let cuts = ap (λ (x : Machine). x.cuts) planned in
     let faults = ap (λ (x : Machine). x.faults) planned in
     record {
       each = λ s shows.
           let armed = shows.stores.armed in
-          let few : (machine_of old).faults + 1 < 2 ^ 63 = omega (arith, armed.most_faults, young) in (
+          let few : m.faults + 1 < 2 ^ 63 = omega (arith, armed.most_faults, young) in (
             fail_armed s,
-            fail_at (seat_limits (Bare old)) s s.now kind n,
-            restored (machine_of old) (machine_of new) s (fail_armed s) shows.stores (ap (λ (x : Machine). x.stable) planned) (ap limits_in planned) refl shows.down (record {
+            fail_at (seat_limits (Bare m age)) s s.now kind n,
+            restored m new s (fail_armed s) shows.stores (ap (λ (x : Machine). x.stable) planned) (ap limits_in planned) refl shows.down (record {
               cuts = omega (arith, others, cuts, armed.cuts);
               faults = omega (arith, bound, faults);
               most_cuts = omega (arith, others, cuts, armed.most_cuts);
@@ -378,6 +480,8 @@ bare_fail old new kind n planned least bound young =
             ap limits_in planned,
             omega (arith, bound, others, armed.most_faults),
           );
+      device = omega (arith, same);
+      strikes = unstruck m new (answers.Reply replies.Done) refl refl cuts faults;
     }
 
 -- ---- a format
@@ -401,13 +505,11 @@ room_of keys pages h =
     let none : nat_le 0 pages ≡ true = grind (arith, nat_tests) in
     λ i. few i && none i
 
--- a session on a device that was formatted shows where a life begins
-pub begins : (m : Machine) (new : SessionState) (keys pages : ℕ) → m ≡ formatted (fresh keys pages) → 3 ≤ keys → Mounts m new.book → new.book.run.machine ≡ begun (record m { stable = new.book.run.machine.stable }) 0 → ShowsState new.book newborn × (limits_of new.book ≡ record { keys = keys; pages = pages })
-begins m new keys pages is room mounts begun_is =
-    let P : Machine → Type 0 = λ x. Mounts x new.book in
-    let here = subst P is mounts in
-    let now = new.book.run.machine.stable in
-    let machine : new.book.run.machine ≡ begun (record (formatted (fresh keys pages)) { stable = now }) 0 = begun_is ∙ ap (λ (x : Machine). begun (record x { stable = now }) 0) is in
+-- a session on a new file system shows where a life begins
+pub begins : (m : Machine) (new : SessionState) → IsNew m → 3 ≤ m.room_keys → Mounts m new.book → new.book.run.machine ≡ begun (record m { stable = new.book.run.machine.stable }) 0 → ShowsState new.book newborn × (limits_of new.book ≡ limits_in m)
+begins m new is room mounts machine =
+    let keys = m.room_keys in
+    let pages = m.room_pages in
     let saved : IsSaved (record { keys = keys; pages = pages }) first_objects root_alone 0 = record {
       tree = root_is_tree;
       kept = root_alone;
@@ -418,7 +520,8 @@ begins m new keys pages is room mounts begun_is =
       count = omega arith;
       room = room_of keys pages room;
     } in
-    let got = here.each first_past 0 saved in
+    let S : Objects → Type 0 = λ o. IsSaved (limits_in m) o root_alone 0 in
+    let got = mounts.each first_past 0 (subst S (sym is.stable) saved) in
     let Q : Tree → Type 0 = λ t. ShowsLive new.book (live_of t) in
     let live = subst Q (named_whole root_alone root_whole) got.1 in
     let cuts = ap (λ (x : Machine). x.cuts) machine in
@@ -427,12 +530,12 @@ begins m new keys pages is room mounts begun_is =
     let most_faults = ap (λ (x : Machine). x.most_faults) machine in (
       record {
         now = live;
-        cuts = omega (arith, most_cuts);
-        faults = omega (arith, most_faults);
-        most_cuts = omega (arith, cuts);
-        most_faults = omega (arith, faults);
-        few_cuts = omega (arith, most_cuts);
-        few_faults = omega (arith, most_faults);
+        cuts = omega (arith, most_cuts, cuts, is.cuts);
+        faults = omega (arith, most_faults, faults, is.faults);
+        most_cuts = omega (arith, cuts, most_cuts, is.cuts);
+        most_faults = omega (arith, faults, most_faults, is.faults);
+        few_cuts = omega (arith, most_cuts, is.cuts, is.few_cuts);
+        few_faults = omega (arith, most_faults, is.faults, is.few_faults);
       },
       limits_now new.book (Up (live_of root_alone)) live ∙ ap limits_in machine,
     )

@@ -5,6 +5,8 @@ pub mod Words
 pub mod Load
 pub mod Ending
 pub mod Lines
+pub mod Strikes
+pub mod Stores
 pub mod Seats
 pub mod Causes
 pub mod Counts

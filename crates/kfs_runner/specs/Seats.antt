@@ -1,17 +1,29 @@
 -- What a session, or a device without one, shows of a life.
-use Rattle.std.specs.Prelude.{ℕ, ◌≡◌, ◌≤◌, ◌<◌, ◌+◌, ◌^◌, max}
-use Rattle.kv_device.specs.Machine.{Machine}
-use Rattle.kv_device.specs.MapDevice.{machine_of}
+use Rattle.std.specs.Prelude.{ℕ, true, ◌≡◌, ◌≤◌, ◌<◌, ◌+◌, ◌^◌, max}
+use Rattle.kv_device.specs.Machine.{Machine, none_open}
 use Rattle.kfs_model.specs.declared.Line.{Line}
 use Rattle.kfs_model.specs.declared.Answer.{Answer}
 use Rattle.kfs_model.specs.Tree.{Limits}
 use Rattle.kfs_model.specs.Life.{State, Now, Up, Down, Past, tree_at, AnyOf, Event}
 use Rattle.kfs_tx.specs.Run.{age_of}
-use Rattle.kfs_posix.specs.Book.{limits_of, running_in}
+use Rattle.kfs_core.specs.Starting.{first_objects}
+use Rattle.kfs_posix.specs.Book.{SessionState, limits_of, running_in}
 use Rattle.kfs_posix.specs.Showing.{ShowsState, IsSaved, one_if}
 use Rattle.kfs_posix.specs.Mounting.{limits_in}
 use Rattle.kfs_runner.specs.declared.seat.Seat.{Seat}
-use Rattle.kfs_runner.specs.declared.seat.Seat.TheVariants.{Mounted, Bare}
+use Rattle.kfs_runner.specs.declared.seat.Seat.TheVariants as seats
+use Rattle.kfs_runner.specs.Strikes.{Strikes, strikes_of, struck}
+use Rattle.kfs_runner.specs.Numbers.{line_age}
+
+-- a session with its device, or a device that is down with the greatest number in it
+pub data Seated : Type 0 where
+  Mounted : (session : SessionState) → Seated
+  Bare : (machine : Machine) (age : ℕ) → Seated
+
+-- what a seat is, by what its device is without a session
+abbrev pub seated : {A B : Type 0} → (A → Machine) → (A → ℕ) → Seat A B → Seated
+seated machine age (seats.Mounted session) = Mounted session
+seated machine age (seats.Bare store) = Bare (machine store) (age store)
 
 -- at most one cut and one fault are planned, and only where they are armed
 pub record AreArmed (m : Machine) (s : State) : Type 0 where
@@ -44,33 +56,54 @@ pub record ShowsBare (m : Machine) (s : State) : Type 0 where
   pub down : IsDown s.now
   pub stores : Stores m s
 
-abbrev pub shows_seat : Seat → State → Type 0
+abbrev pub shows_seat : Seated → State → Type 0
 shows_seat (Mounted session) s = ShowsState session.book s
-shows_seat (Bare device) s = ShowsBare (machine_of device) s
+shows_seat (Bare machine age) s = ShowsBare machine s
 
-abbrev pub seat_limits : Seat → Limits
+abbrev pub seat_limits : Seated → Limits
 seat_limits (Mounted session) = limits_of session.book
-seat_limits (Bare device) = limits_in (machine_of device)
+seat_limits (Bare machine age) = limits_in machine
 
 -- the greatest number of cuts and of faults that may come
 abbrev pub most_of : Machine → ℕ
 most_of m = max m.most_cuts m.most_faults
 
-abbrev pub seat_age : Seat → ℕ
+abbrev pub seat_age : Seated → ℕ
 seat_age (Mounted session) = max (age_of (running_in session)) (most_of session.book.run.machine)
-seat_age (Bare device) = most_of (machine_of device)
+seat_age (Bare machine age) = most_of machine
+
+-- the greatest number that its device has written
+abbrev pub device_age : Seated → ℕ
+device_age (Mounted session) = session.device_age
+device_age (Bare machine age) = age
 
 -- it shows some state
-abbrev pub Shown : Seat → Type 0
+abbrev pub Shown : Seated → Type 0
 Shown seat = (s : State) × shows_seat seat s
 
--- from each state that was shown, the line and its answer lead to one that is shown now
-pub record SeatGoes (old : Seat) (line : Line) (answer : Answer) (new : Seat) : Type 0 where
+-- the device that it has
+abbrev pub seat_machine : Seated → Machine
+seat_machine (Mounted session) = session.book.run.machine
+seat_machine (Bare machine age) = machine
+
+-- how often power was cut, and how often an operation failed
+abbrev pub seat_strikes : Seated → Strikes
+seat_strikes seat = strikes_of (seat_machine seat)
+
+-- a device that is up with a new file system alone, for which no cut and no fault is planned
+pub record IsNew (m : Machine) : Type 0 where
+  pub up : m.up ≡ true
+  pub stable : m.stable ≡ first_objects
+  pub idle : m.pending ≡ none_open
+  pub cuts : m.most_cuts ≡ m.cuts
+  pub faults : m.most_faults ≡ m.faults
+  pub few_cuts : m.cuts ≤ 2 ^ 62
+  pub few_faults : m.faults ≤ 2 ^ 62
+
+-- from each state that was shown, the line and its answer lead to one that is shown now; the answer tells each cut and each fault
+pub record SeatGoes (old : Seated) (line : Line) (answer : Answer) (new : Seated) : Type 0 where
   pub each : (s : State) → shows_seat old s →
       (t : State) × Event (seat_limits old) s line answer t × shows_seat new t
-      × (seat_limits new ≡ seat_limits old) × (seat_age new ≤ max (seat_age old) (2 ^ 62) + 2 ^ 38)
-
--- the device that it has
-abbrev pub seat_machine : Seat → Machine
-seat_machine (Mounted session) = session.book.run.machine
-seat_machine (Bare device) = machine_of device
+      × (seat_limits new ≡ seat_limits old) × (seat_age new ≤ max (seat_age old) (2 ^ 62) + line_age)
+  pub device : device_age new ≤ device_age old + line_age
+  pub strikes : seat_strikes new ≡ struck (seat_strikes old) answer

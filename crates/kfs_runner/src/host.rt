@@ -3,6 +3,8 @@ ghost use Rattle.std.specs.Prelude.{◌≡◌, ◌≤◌, ◌<◌, ◌+◌, ◌-
 ghost use Rattle.kfs_model.specs.Tree.{Limits};
 ghost use Rattle.kfs_model.specs.Life.{State, Event};
 ghost use Rattle.kfs_script.specs.Script.{IsLine, is_format};
+ghost use Rattle.kfs_runner.specs.Strikes.{Strikes, struck};
+ghost use Rattle.kfs_runner.specs.Numbers.{line_age};
 
 use kfs_script::{Answer, Line};
 use std::alloc::Global;
@@ -18,6 +20,12 @@ pub trait Host: Drop {
     /// The greatest number that it keeps.
     ghost age: { Self → ℕ };
 
+    /// The greatest number that its device has written.
+    ghost device_age: { Self → ℕ };
+
+    /// How often power was cut and an operation failed.
+    ghost strikes: { Self → Strikes };
+
     /// Does a line, and answers it.
     fn answer(self, alloc: Global, line: &Line) -> (Self, Answer)
         requires line { IsLine line.now }
@@ -25,6 +33,9 @@ pub trait Host: Drop {
         requires shown { (s : State) × shows self s }
         requires room { (limits self).keys ≤ 68544 }
         requires age { age self < 2 ^ 63 - 2 ^ 40 }
+        requires device_age { device_age self < 2 ^ 62 }
         ensures goes_on { (s : State) → shows self s → (t : State) × Event (limits self) s line.now result.1 t × shows result.0 t
-            × (limits result.0 ≡ limits self) × (age result.0 ≤ max (age self) (2 ^ 62) + 2 ^ 38) };
+            × (limits result.0 ≡ limits self) × (age result.0 ≤ max (age self) (2 ^ 62) + line_age) }
+        ensures device_age { device_age result.0 ≤ device_age self + line_age }
+        ensures strikes { strikes result.0 ≡ struck (strikes self) result.1 };
 }

@@ -5,12 +5,14 @@ mod ending;
 mod host;
 mod lines;
 mod load;
+mod map_seat;
 mod memory;
 mod outside;
 mod reading;
 mod running;
 mod seat;
 mod standard;
+mod store;
 mod words;
 mod writing;
 

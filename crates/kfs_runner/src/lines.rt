@@ -1,5 +1,5 @@
 // Lines of a script, each with its answer.
-ghost use Rattle.std.specs.Prelude.{◌≡◌, ◌≤◌, ◌++◌, ◌^◌, List, length, IfOk, OnOk, IfErr, All, false};
+ghost use Rattle.std.specs.Prelude.{◌≡◌, ◌≤◌, ◌++◌, ◌^◌, List, length, IfOk, ◌<◌, IfErr, All, false};
 ghost use Rattle.kfs_script.specs.AnswerText.{texts_of};
 ghost use Rattle.kfs_model.specs.Life.{State, newborn};
 ghost use Rattle.kfs_script.specs.Script.{IsLine, is_format};
@@ -8,7 +8,7 @@ ghost use Rattle.kfs_runner.specs.Lines.{AnsweredFrom, OverflowsFrom};
 ghost use Rattle.kfs_runner.specs.declared.lines.Unanswered.TheVariants.{TooLong, Memory as NoMemory};
 
 use crate::host::Host;
-use crate::seat::Seat;
+use crate::map_seat::format_map;
 use kfs_path::Reply;
 use kfs_script::{Answer, Line, write_answer};
 use kv_base::{Memory, Text};
@@ -31,23 +31,26 @@ impl From<Memory> for Unanswered {
     }
 }
 
-/// Does the lines in their order, and adds the text of each answer, up to so many bytes.
+/// Does the lines in their order, and adds the text of each answer, up to so many bytes. It stops
+/// behind the answer that brings the text above that.
 pub fn answer_all<H: Host>(
     alloc: Global,
     host: H,
     lines: &[Line],
     most: usize,
     text: &mut Text,
-) -> Result<(), Unanswered>
+) -> Result<H, Unanswered>
     requires shows { H.shows host newborn }
     requires age { H.age host ≤ 2 ^ 62 }
+    requires device_age { H.device_age host ≤ 2 ^ 60 }
     requires few { length lines.now ≤ 2 ^ 23 }
     requires lines { All IsLine lines.now }
     requires formats { All (λ line. is_format line ≡ false) lines.now }
     requires room { (H.limits host).keys ≤ 68544 }
     requires short { length text.old ≤ most }
-    ensures ok { OnOk result (AnsweredFrom (H.limits host) lines.now most text.old text.new) }
-    ensures long { IfErr result (λ e. e ≡ TooLong → OverflowsFrom (H.limits host) lines.now most text.old) }
+    ensures ok { IfOk result (λ left. AnsweredFrom (H.limits host) lines.now most text.old text.new (H.shows left) (H.strikes host) (H.strikes left)) }
+    ensures device_age { IfOk result (λ left. H.device_age left < 2 ^ 62) }
+    ensures long { IfErr result (λ e. e ≡ TooLong → OverflowsFrom (H.limits host) lines.now most text.old text.new) }
 {
     let mut host = host;
     for line in lines {
@@ -58,7 +61,7 @@ pub fn answer_all<H: Host>(
             return Err(Unanswered::TooLong);
         }
     }
-    Ok(())
+    Ok(host)
 }
 
 /// The text of the answers to a format of so many blocks and to the lines behind it, of at most so
@@ -78,9 +81,9 @@ pub fn answer_lines(
     ensures ok { IfOk result (λ text. IsAnswered blocks lines.now most text) }
     ensures long { IfErr result (λ e. e ≡ TooLong → Overflows blocks lines.now most) }
 {
-    let seat = Seat::format(alloc, blocks)?;
+    let seat = format_map(alloc, blocks)?;
     let mut text = Text::new(alloc, b"")?;
     write_answer(alloc, &mut text, &Answer::Reply(Reply::Done))?;
-    answer_all(alloc, seat, lines, most, &mut text)?;
+    let _ = answer_all(alloc, seat, lines, most, &mut text)?;
     Ok(text)
 }

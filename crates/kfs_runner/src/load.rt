@@ -4,12 +4,14 @@ ghost use Rattle.kfs_model.specs.Life.{newborn};
 ghost use Rattle.kfs_script.specs.AnswerText.{and_number};
 ghost use Rattle.kfs_load.specs.Coming.{first_live};
 ghost use Rattle.kfs_load.specs.Generator.{IsLoadRest};
-ghost use Rattle.kfs_runner.specs.Seats.{shows_seat, seat_limits, seat_age};
+ghost use Rattle.kfs_runner.specs.Seats.{seated, shows_seat, seat_limits, seat_age, device_age};
 ghost use Rattle.kfs_runner.specs.Load.{numbers_text, load_text};
 ghost use Rattle.kfs_runner.specs.Counts.{Counts, CountsReply, plain_behind, IsCounted};
 
 use crate::host::Host;
+use crate::map_seat::format_map;
 use crate::seat::Seat;
+use crate::store::Store;
 use kfs_load::make_script;
 use kfs_path::Reply;
 use kfs_plain::{PlainTree, Totals};
@@ -80,18 +82,19 @@ fn follow(alloc: Global, plain: &mut PlainTree, line: &Line) -> Result<(), Memor
 }
 
 // Does the lines behind a load's format in their order.
-fn run_lines(
+fn run_lines<S: Store>(
     alloc: Global,
-    seat: Seat,
+    seat: Seat<S>,
     plain: PlainTree,
     lines: &[Line],
 ) -> Result<(Tally, Totals), Memory>
-    requires shows { shows_seat seat newborn }
-    requires age { seat_age seat ≤ 2 ^ 62 }
-    requires room { (seat_limits seat).keys ≤ 68544 }
-    requires plain { plain ≡ record { world = first_live.world; limits = seat_limits seat } }
+    requires shows { shows_seat (seated S.machine S.age seat) newborn }
+    requires age { seat_age (seated S.machine S.age seat) ≤ 2 ^ 62 }
+    requires device_age { device_age (seated S.machine S.age seat) ≤ 2 ^ 60 }
+    requires room { (seat_limits (seated S.machine S.age seat)).keys ≤ 68544 }
+    requires plain { plain ≡ record { world = first_live.world; limits = seat_limits (seated S.machine S.age seat) } }
     requires load { IsLoadRest lines.now }
-    ensures counted { IfOk result (λ r. IsCounted (seat_limits seat) lines.now r.0 r.1) }
+    ensures counted { IfOk result (λ r. IsCounted (seat_limits (seated S.machine S.age seat)) lines.now r.0 r.1) }
     ensures few { IfOk result (λ r. r.0.dones + r.0.errors < 2 ^ 32) }
 {
     let mut seat = seat;
@@ -155,7 +158,7 @@ pub fn load_line(alloc: Global, seed: u64, count: u32, blocks: u16) -> Result<Te
         unreachable!();
     };
     let lines = make_script(alloc, seed, count, blocks)?;
-    let seat = Seat::format(alloc, blocks)?;
+    let seat = format_map(alloc, blocks)?;
     let plain = PlainTree::new(
         alloc,
         u64::from(layout.max_keys),

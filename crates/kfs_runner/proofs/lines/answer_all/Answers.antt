@@ -1,7 +1,7 @@
 use Rattle.std.proofs.Common.{◌<◌, ◌++◌, ◌∷◌, ◌∙◌, ◌≤◌, ◌+◌, [], ℕ, List, length, ap, subst, arith}
 use Rattle.kfs_model.specs.Tree.{Limits}
 use Rattle.kfs_model.specs.Life.{Event}
-use Rattle.kfs_runner.proofs.LinesMore.{life_at, texts_more}
+use Rattle.kfs_runner.proofs.LinesMore.{life_at, texts_more, struck_more}
 use Rattle.kfs_runner.proofs.lines.answer_all.Goals as goal
 
 pub loop-line-preserved : goal.loop-line-preserved
@@ -20,6 +20,8 @@ loop-line-preserved g c =
       shows = went.2;
       limits = went.3 ∙ before.limits;
       age = omega (arith, went.4);
+      device = omega (arith, c.answer-next.ensures.device_age, before.device);
+      strikes = struck_more _ _ _ before.given answer before.strikes c.answer-next.ensures.strikes;
       short = omega (arith, ap length c.bytes.ensures);
     }
 
@@ -39,6 +41,7 @@ returns-then-bytes-most-clause-long g c =
       end = went.0;
       some = omega arith;
       life = life_at _ c.args.lines.now c.loop-line.line-index before.given before.state went.0 line answer below c.line-item.is before.life (subst P before.limits went.1);
+      text = text;
       below = subst (λ (t : List ℕ). length t ≤ c.args.most) before.text before.short;
-      above = omega (arith, ap length c.bytes.ensures, ap length text);
+      above = omega (arith, ap length c.bytes.ensures);
     }

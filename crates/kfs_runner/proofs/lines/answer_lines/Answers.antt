@@ -34,5 +34,5 @@ returns-in_err-answer_all-clause-long c =
       some = over.some;
       are = (refl, over.end, subst L c.in_ok-seat.ensures.limits over.life);
       below = subst (λ (t : List ℕ). length (t ++ texts_of over.given) ≤ c.args.most) text over.below;
-      above = subst (λ (t : List ℕ). c.args.most < length (t ++ texts_of (over.given ++ over.last ∷ []))) text over.above;
+      above = subst (λ (t : List ℕ). c.args.most < length t) (over.text ∙ ap (λ t. t ++ texts_of (over.given ++ over.last ∷ [])) text) over.above;
     })

@@ -3,7 +3,6 @@ use Rattle.kfs_model.specs.declared.Line.{Line}
 use Rattle.kfs_model.specs.declared.Line.TheVariants as lines
 use Rattle.kfs_load.specs.Generator.{load_rest}
 use Rattle.kfs_load.proofs.LineLaws.{rest_is}
-use Rattle.kfs_runner.specs.Seats.{seat_limits}
 use Rattle.kfs_runner.proofs.LoadRuns.{text_is}
 use Rattle.kfs_runner.proofs.load.load_line.Goals as goal
 
@@ -25,4 +24,4 @@ returns c =
     let whole : c.as_slice.result.now ≡ lines.Format c.args.blocks ∷ load_rest c.args.seed c.args.count = c.as_slice.ensures.value ∙ c.in_ok-lines.ensures ∙ rest_is c.args.seed c.args.count c.args.blocks in
     let rest : c.behind_format.result.now ≡ load_rest c.args.seed c.args.count = c.behind_format.ensures ∙ ap (drop 1) whole in
     let T : List ℕ → Type 0 = λ t. IfOk c.line_of.result (λ text. text ≡ t) in
-    subst T (text_is c.args.seed c.args.count c.args.blocks (seat_limits c.in_ok-seat.seat) c.behind_format.result.now c.in_ok-tally.tally c.in_ok-tally.totals c.in_ok-seat.ensures.limits rest c.in_ok-tally.ensures.counted) c.line_of.ensures
+    subst T (text_is c.args.seed c.args.count c.args.blocks _ c.behind_format.result.now c.in_ok-tally.tally c.in_ok-tally.totals c.in_ok-seat.ensures.limits rest c.in_ok-tally.ensures.counted) c.line_of.ensures

@@ -8,7 +8,7 @@ use Rattle.kfs_plain.specs.declared.tree.Totals.{Totals}
 use Rattle.kfs_script.specs.Script.{IsLine}
 use Rattle.kfs_load.specs.Coming.{is_error}
 use Rattle.kfs_runner.specs.declared.load.Tally.{Tally}
-use Rattle.kfs_runner.specs.Seats.{seat_limits}
+use Rattle.kfs_runner.specs.Seats.{seated, seat_limits}
 use Rattle.kfs_runner.specs.Counts.{counted, Counts, IsCounted}
 use Rattle.kfs_runner.proofs.LoadRuns.{IsAt, begins, goes_on, ends, load_has, lines_hold, load_follows, load_few}
 use Rattle.kfs_runner.proofs.load.run_lines.Goals as goal
@@ -26,67 +26,77 @@ counts_few old new (answers.Mounted n) counts = omega (arith, ap (λ (t : Tally)
 counts_few old new (answers.Refused damage) counts = absurd counts
 
 pub loop-line-init : goal.loop-line-init
-loop-line-init c = record {
-  at = begins c.args.seat c.args.plain c.args.lines.now c.requires.shows c.requires.plain (load_follows c.args.lines.now c.requires.load);
+loop-line-init g c = record {
+  at = begins (seated g.S.Store.machine g.S.Store.age c.args.seat) c.args.plain c.args.lines.now c.requires.shows c.requires.plain (load_follows c.args.lines.now c.requires.load);
   age = c.requires.age;
+  device = c.requires.device_age;
   next = omega (arith, ap (λ (p : Plain). p.world.tree.next) c.requires.plain);
   few = omega arith;
 }
 
 pub answer-next-requires-clause-line : goal.answer-next-requires-clause-line
-answer-next-requires-clause-line c =
+answer-next-requires-clause-line g c =
     let below : c.loop-line.line-index < length c.args.lines.now = omega arith in
     load_has IsLine lines_hold c.args.lines.now c.requires.load c.loop-line.line-index c.line-item.result below c.line-item.is
 
 pub answer-next-requires-clause-age : goal.answer-next-requires-clause-age
-answer-next-requires-clause-age c =
+answer-next-requires-clause-age g c =
     let below : c.loop-line.line-index < length c.args.lines.now = omega arith in
     let few = load_few c.args.lines.now c.requires.load in
     omega (arith, c.loop-line.invariant.age, few, below)
 
+pub answer-next-requires-clause-device_age : goal.answer-next-requires-clause-device_age
+answer-next-requires-clause-device_age g c =
+    let below : c.loop-line.line-index < length c.args.lines.now = omega arith in
+    let few = load_few c.args.lines.now c.requires.load in
+    omega (arith, c.loop-line.invariant.device, few, below)
+
 pub with_answer-requires : goal.with_answer-requires
-with_answer-requires c =
+with_answer-requires g c =
     let below : c.loop-line.line-index < length c.args.lines.now = omega arith in
     let few = load_few c.args.lines.now c.requires.load in
     omega (arith, c.loop-line.invariant.few, few, below)
 
 pub follow-requires : goal.follow-requires
-follow-requires c =
+follow-requires g c =
     let below : c.loop-line.line-index < length c.args.lines.now = omega arith in
     let few = load_few c.args.lines.now c.requires.load in
     omega (arith, c.loop-line.invariant.next, few, below)
 
 pub loop-line-preserved : goal.loop-line-preserved
-loop-line-preserved c =
-    let k = seat_limits c.args.seat in
+loop-line-preserved g c =
+    let at_seat = seated g.S.Store.machine g.S.Store.age in
+    let k = seat_limits (at_seat c.args.seat) in
     let line = c.line-item.result in
     let answer = c.answer-next.result.1 in
     let rest = drop (c.loop-line.line-index + 1) c.args.lines.now in
     let below : c.loop-line.line-index < length c.args.lines.now = omega arith in
-    let R : List Line → Type 0 = λ ls. IsAt k c.loop-line.seat c.loop-line.plain c.loop-line.tally ls c.args.lines.now in
+    let R : List Line → Type 0 = λ ls. IsAt k (at_seat c.loop-line.seat) c.loop-line.plain c.loop-line.tally ls c.args.lines.now in
     let at = subst R (rest_is c.args.lines.now c.loop-line.line-index line below c.line-item.is) c.loop-line.invariant.at in
     let went = c.answer-next.ensures.goes_on c.loop-line.invariant.at.state c.loop-line.invariant.at.shows in
-    let P : Plain → Type 0 = λ p. IsAt k c.answer-next.result.0 p c.in_ok-tally.tally rest c.args.lines.now in
+    let P : Plain → Type 0 = λ p. IsAt k (at_seat c.answer-next.result.0) p c.in_ok-tally.tally rest c.args.lines.now in
     let age = went.4 in
     let counts = counts_few c.loop-line.tally c.in_ok-tally.tally answer c.in_ok-tally.ensures in
     record {
-      at = subst P (sym c.in_ok-follow.ensures.behind) (goes_on k c.loop-line.seat c.answer-next.result.0 c.loop-line.plain c.loop-line.tally c.in_ok-tally.tally line rest c.args.lines.now answer at c.answer-next.ensures.goes_on c.in_ok-tally.ensures);
+      at = subst P (sym c.in_ok-follow.ensures.behind) (goes_on k (at_seat c.loop-line.seat) (at_seat c.answer-next.result.0) c.loop-line.plain c.loop-line.tally c.in_ok-tally.tally line rest c.args.lines.now answer at c.answer-next.ensures.goes_on c.in_ok-tally.ensures);
       age = omega (arith, age, c.loop-line.invariant.age);
+      device = omega (arith, c.answer-next.ensures.device_age, c.loop-line.invariant.device);
       next = omega (arith, c.in_ok-follow.ensures.next, c.loop-line.invariant.next);
       few = omega (arith, counts, c.loop-line.invariant.few);
     }
 
 pub returns-clause-counted : goal.returns-clause-counted
-returns-clause-counted c =
-    let k = seat_limits c.args.seat in
+returns-clause-counted g c =
+    let at_seat = seated g.S.Store.machine g.S.Store.age in
+    let k = seat_limits (at_seat c.args.seat) in
     let end : c.loop-line.line-index ≡ length c.args.lines.now = omega arith in
-    let R : List Line → Type 0 = λ ls. IsAt k c.loop-line.seat c.loop-line.plain c.loop-line.tally ls c.args.lines.now in
+    let R : List Line → Type 0 = λ ls. IsAt k (at_seat c.loop-line.seat) c.loop-line.plain c.loop-line.tally ls c.args.lines.now in
     let T : Totals → Type 0 = λ t. IsCounted k c.args.lines.now c.loop-line.tally t in
     let at = subst R (ap (λ i. drop i c.args.lines.now) end ∙ drop-length c.args.lines.now) c.loop-line.invariant.at in
-    subst T (sym c.totals.ensures) (ends k c.loop-line.seat c.loop-line.plain c.loop-line.tally c.args.lines.now at)
+    subst T (sym c.totals.ensures) (ends k (at_seat c.loop-line.seat) c.loop-line.plain c.loop-line.tally c.args.lines.now at)
 
 pub returns-clause-few : goal.returns-clause-few
-returns-clause-few c =
+returns-clause-few g c =
     let end : c.loop-line.line-index ≤ length c.args.lines.now = omega arith in
     let few = load_few c.args.lines.now c.requires.load in
     omega (arith, c.loop-line.invariant.few, few, end)

@@ -1,0 +1,36 @@
+-- How often power was cut and an operation failed, line by line.
+use Rattle.std.specs.Prelude.{ℕ, ◌+◌, Bool, true, false, List}
+use Rattle.std.specs.List.{count_by}
+use Rattle.kv_device.specs.Machine.{Machine}
+use Rattle.kfs_path.specs.declared.call.Cause.TheVariants as causes
+use Rattle.kfs_path.specs.declared.call.Reply.TheVariants as replies
+use Rattle.kfs_model.specs.declared.Answer.{Answer}
+use Rattle.kfs_model.specs.declared.Answer.TheVariants as answers
+use Rattle.kfs_posix.specs.Showing.{one_if}
+
+-- how often power was cut, and how often an operation failed
+pub record Strikes : Type 0 where
+  pub cuts : ℕ
+  pub faults : ℕ
+
+-- how often that came to a device
+abbrev pub strikes_of : Machine → Strikes
+strikes_of m = record { cuts = m.cuts; faults = m.faults }
+
+-- the answer is `down cut`
+abbrev pub is_cut : Answer → Bool
+is_cut (answers.Reply (replies.Down causes.Cut)) = true
+is_cut answer = false
+
+-- the answer is `down eio`
+abbrev pub is_failure : Answer → Bool
+is_failure (answers.Reply (replies.Down causes.Eio)) = true
+is_failure answer = false
+
+-- each `down cut` is a cut, and each `down eio` a fault
+abbrev pub struck : Strikes → Answer → Strikes
+struck s answer = record { cuts = s.cuts + one_if (is_cut answer); faults = s.faults + one_if (is_failure answer) }
+
+-- those after all of these answers
+abbrev pub struck_by : Strikes → List Answer → Strikes
+struck_by s given = record { cuts = s.cuts + count_by is_cut given; faults = s.faults + count_by is_failure given }
