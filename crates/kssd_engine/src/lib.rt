@@ -7,4 +7,5 @@ mod numbers;
 mod planned;
 mod ssd;
 
+pub use planned::{operation_of, outcome_of};
 pub use ssd::Ssd;

@@ -7,8 +7,8 @@ use crate::Ssd;
 use kv_device::PlannedDevice;
 use kv_nand::{OpKind, Outcome, PlannedNand};
 
-// What a cut leaves of its operation, by its number.
-fn outcome_of(how: u8) -> Outcome
+/// What a cut leaves of its operation, by its number.
+pub fn outcome_of(how: u8) -> Outcome
     requires { how ≤ 3 }
     ensures { result ≡ outcome_of how }
 {
@@ -20,8 +20,8 @@ fn outcome_of(how: u8) -> Outcome
     }
 }
 
-// An operation by its number.
-fn operation_of(kind: u8) -> OpKind
+/// An operation by its number.
+pub fn operation_of(kind: u8) -> OpKind
     requires { kind ≤ 2 }
     ensures { result ≡ operation_of kind }
 {
