@@ -1,19 +1,20 @@
 //! Runs scripts of file calls.
 #![tactic(auto)]
 
-ghost use Rattle.std.specs.Prelude.{◌≡◌};
-ghost use Rattle.kfs_runner.specs.Ending.{Ends, LeavesSource, side};
+ghost use Rattle.kfs_runner.specs.Ending.{Ends, LeavesAlone, side, sides};
 
 use kfs_runner::{
-    Incoming, MemShelf, NO_MEMORY, Outgoing, Shelf, Sink, Source, run_words, write_ending,
+    FileShelf, Incoming, NO_MEMORY, Outgoing, Shelf, Sink, Source, run_words, write_ending,
 };
-use kv_base::Text;
+use kv_base::{Memory, Text};
 use std::alloc::Global;
+use std::env::FillError;
+use std::io;
 use std::process::ExitCode;
-use std::rt::Env;
-use std::{env, io};
+use std::rt::{Env, Files};
 
-/// Runs a script on an image in memory, or makes a load, and answers the status.
+/// Runs a script on a new flash and puts its image on the shelf, or makes a load, and answers the
+/// status.
 pub fn kevin<H: Shelf, S: Source, O: Sink>(
     alloc: Global,
     words: &Vec<Text>,
@@ -22,35 +23,61 @@ pub fn kevin<H: Shelf, S: Source, O: Sink>(
     out: &mut O,
 ) -> u8
     ensures ends { Ends words.now.items
-        (side (S.left script.old) (S.faults script.old)) (side (S.left script.new) (S.faults script.new))
+        (sides (side (H.held shelf.old) (H.faults shelf.old)) (side (S.left script.old) (S.faults script.old)))
+        (sides (side (H.held shelf.new) (H.faults shelf.new)) (side (S.left script.new) (S.faults script.new)))
         (side (O.got out.old) (O.faults out.old)) (side (O.got out.new) (O.faults out.new)) result }
-    ensures unread { LeavesSource words.now.items (side (S.left script.old) (S.faults script.old)) (side (S.left script.new) (S.faults script.new)) }
-    ensures shelf { H.held shelf.new ≡ H.held shelf.old }
+    ensures alone { LeavesAlone words.now.items
+        (sides (side (H.held shelf.old) (H.faults shelf.old)) (side (S.left script.old) (S.faults script.old)))
+        (sides (side (H.held shelf.new) (H.faults shelf.new)) (side (S.left script.new) (S.faults script.new))) }
 {
-    let _ = &shelf;
-    let ending = run_words(alloc, words, script);
+    let ending = run_words(alloc, words, shelf, script);
     write_ending(out, &ending)
 }
 
-// The words after the program's name.
-fn program_words(rt: &(impl Env + AllocGlobal)) -> io::Result<Vec<Text>> {
+// The most times that the room for a word is doubled.
+const MOST_DOUBLINGS: u32 = 32;
+
+// The bytes of the word at a place behind the program's name, where there is one.
+fn word_at(rt: &(impl Env + AllocGlobal), place: usize) -> Result<Option<Text>, Memory> {
+    let mut room: usize = 4_096;
+    for _ in 0..MOST_DOUBLINGS {
+        let mut piece = vec![in rt.alloc(); 0u8; room]?;
+        match rt.arg(place, piece.as_mut_slice()) {
+            Ok(n) => return Ok(Some(Text::new(rt.alloc(), &piece[..n])?)),
+            Err(FillError::NotPresent) => return Ok(None),
+            Err(FillError::TooLong) => room = room.saturating_mul(2),
+        }
+    }
+    Err(Memory)
+}
+
+// The words behind the program's name.
+fn program_words(rt: &(impl Env + AllocGlobal)) -> Result<Vec<Text>, Memory> {
     let mut words = Vec::new(rt.alloc());
-    for word in env::args(rt)?.skip(1) {
-        let Ok(word) = Text::new(rt.alloc(), word.as_bytes()) else {
-            return Err(io::Error::from(io::ErrorKind::OutOfMemory));
-        };
-        words.push(word)?;
+    for place in 1..usize::MAX {
+        match word_at(rt, place)? {
+            Some(word) => words.push(word)?,
+            None => break,
+        }
     }
     Ok(words)
 }
 
-// Runs the program over the standard streams, with an image in memory.
-fn run(rt: &(impl Env + Input + Print + AllocGlobal)) -> u8 {
+// The path of the image, which is empty where no word gives it.
+fn image_path(words: &Vec<Text>) -> &[u8] {
+    match words.get(1) {
+        Some(word) => word.bytes(),
+        None => b"",
+    }
+}
+
+// Runs the program over the standard streams, with the image in a file.
+fn run(rt: &(impl Env + Files + Input + Print + AllocGlobal)) -> u8 {
     let alloc = rt.alloc();
     let Ok(words) = program_words(rt) else {
         return NO_MEMORY;
     };
-    let Ok(mut shelf) = MemShelf::new(alloc, b"", 0, &[]) else {
+    let Ok(mut shelf) = FileShelf::new(rt, image_path(&words)) else {
         return NO_MEMORY;
     };
     let mut script = Incoming::new(rt.reader());

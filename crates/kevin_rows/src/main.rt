@@ -1,12 +1,13 @@
-//! Runs rows of scripts over memory, each on a session and on the plain tree beside it, and writes
+//! Runs rows of scripts on a flash in memory, each on a session and on the plain tree beside it, and writes
 //! what each comes to.
 //!
 //! Of the input, a line `-- NAME` begins a row, and the lines behind it are its script. A line
 //! `$ WORDS` gives the words of the run, which are `run img` else, and what is to fail of it:
-//! `read=N` and `write=N` the N-th read and write, and `room=N` leaves so many bytes of room for the
-//! answers. A line `* N LINE` stands for N times LINE, with the count from 00 in the place of `{}`.
+//! `read=N`, `write=N` and `put=N` the N-th read, write and put, `room=N` leaves so many bytes of room
+//! for the answers, and `shelf=N` so many for the image. A line `* N LINE` stands for N times LINE, with the count from 00 in the place of `{}`.
 //! With a word `each=script` each line is a script of its own, with `each=line` behind `@format 256`, and with `cuts=N`
-//! the script is run with a cut and with a fault planned at each of its first N commits.
+//! the script is run with a cut of each outcome planned at each of the first N programs and erases behind its
+//! format, and with a fault at each of the first N programs.
 //!
 //! Of a row its name is written, and a line `= STATUS` with what the sink got; a bar marks the end of
 //! what breaks off within a line. The program ends with the status of its last row.

@@ -1,10 +1,19 @@
 // A row: the words of a run, its script, and what is to fail.
 use crate::following::difference;
-use kfs_runner::{MemSink, MemSource, run_words, write_ending};
+use kfs_runner::{MemShelf, MemSink, MemSource, run_words, write_ending};
 use kv_base::{Memory, Text};
+use nand_mem::MemNand;
 use std::alloc::Global;
 
-/// What a run comes to.
+// What a run comes to.
+#[derive(Drop)]
+struct Ended {
+    status: u8,
+    got: Text,
+    shelf: MemShelf,
+}
+
+/// What a row comes to.
 #[derive(Drop)]
 pub struct Outcome {
     /// The status.
@@ -20,6 +29,8 @@ pub struct Row {
     words: Vec<Text>,
     reads: Vec<u32>,
     writes: Vec<u32>,
+    puts: Vec<u32>,
+    shelf: usize,
     room: usize,
     front: Option<&'static str>,
     cuts: u32,
@@ -28,6 +39,9 @@ pub struct Row {
 
 // The room for the answers where a row says nothing of it.
 const ROOM: usize = 1_000_000;
+
+// The room on the shelf, which is that for each image of 256 blocks.
+const SHELF: usize = 34_086_924;
 
 impl Row {
     /// A row of this name without a script.
@@ -40,6 +54,8 @@ impl Row {
             words,
             reads: Vec::new(alloc),
             writes: Vec::new(alloc),
+            puts: Vec::new(alloc),
+            shelf: SHELF,
             room: ROOM,
             front: None,
             cuts: 0,
@@ -93,6 +109,8 @@ impl Row {
         match word.split_once('=') {
             Some(("read", number)) => self.reads.push(number.parse().unwrap_or(0))?,
             Some(("write", number)) => self.writes.push(number.parse().unwrap_or(0))?,
+            Some(("put", number)) => self.puts.push(number.parse().unwrap_or(0))?,
+            Some(("shelf", number)) => self.shelf = number.parse().unwrap_or(0),
             Some(("room", number)) => self.room = number.parse().unwrap_or(0),
             Some(("each", "script")) => self.front = Some(""),
             Some(("each", _)) => self.front = Some("@format 256\n"),
@@ -103,12 +121,17 @@ impl Row {
     }
 
     // Runs a script with the words of the row.
-    fn run(&self, alloc: Global, script: &str) -> Result<(u8, Text), Memory> {
+    fn run(&self, alloc: Global, script: &str) -> Result<Ended, Memory> {
+        let mut shelf = MemShelf::new(alloc, b"old", self.shelf, self.puts.as_slice())?;
         let mut source = MemSource::new(alloc, script.as_bytes(), self.reads.as_slice())?;
         let mut sink = MemSink::new(alloc, self.room, self.writes.as_slice())?;
-        let ending = run_words(alloc, &self.words, &mut source);
+        let ending = run_words(alloc, &self.words, &mut shelf, &mut source);
         let status = write_ending(&mut sink, &ending);
-        Ok((status, Text::new(alloc, sink.bytes())?))
+        Ok(Ended {
+            status,
+            got: Text::new(alloc, sink.bytes())?,
+            shelf,
+        })
     }
 
     /// What the row comes to.
@@ -128,8 +151,9 @@ impl Row {
 
     // Adds the status and the answers of the run.
     fn tell_run(&self, alloc: Global, text: &mut String) -> Result<u8, Memory> {
-        let (status, got) = self.run(alloc, self.script.as_str())?;
-        let got = std::str::from_utf8(got.bytes()).unwrap_or("no text");
+        let ended = self.run(alloc, self.script.as_str())?;
+        let status = ended.status;
+        let got = std::str::from_utf8(ended.got.bytes()).unwrap_or("no text");
         let line = format!(in alloc; "= {status}\n{got}")?;
         text.push_str(line.as_str())?;
         if !got.is_empty() && !got.ends_with('\n') {
@@ -138,7 +162,24 @@ impl Row {
         if status == 0 {
             tell_difference(alloc, self.script.as_str(), got, text)?;
         }
+        if status != 5 && !self.is_shelf_right(alloc, &ended)? {
+            text.push_str("the shelf holds something else\n")?;
+        }
         Ok(status)
+    }
+
+    // Whether the shelf holds an image that is read and written again as the same bytes, where a
+    // script was run to its end, and else what it held.
+    fn is_shelf_right(&self, alloc: Global, ended: &Ended) -> Result<bool, Memory> {
+        let held = ended.shelf.bytes();
+        let is_run = matches!(self.words.first(), Some(word) if word.bytes() == b"run".as_slice());
+        if ended.status != 0 || !is_run {
+            return Ok(held == b"old".as_slice());
+        }
+        match MemNand::from_image(alloc, held) {
+            Ok(nand) => Ok(nand.to_image(alloc)?.bytes() == held),
+            Err(_) => Ok(false),
+        }
     }
 
     // Adds the status and the last line of the text for each line as a script, with the same in
@@ -146,8 +187,9 @@ impl Row {
     fn tell_each(&self, alloc: Global, front: &str, text: &mut String) -> Result<(), Memory> {
         for line in self.script.lines() {
             let script = format!(in alloc; "{front}{line}\n")?;
-            let (status, got) = self.run(alloc, script.as_str())?;
-            let got = std::str::from_utf8(got.bytes()).unwrap_or("no text");
+            let ended = self.run(alloc, script.as_str())?;
+            let status = ended.status;
+            let got = std::str::from_utf8(ended.got.bytes()).unwrap_or("no text");
             let last = got.lines().last().unwrap_or("");
             let told = format!(in alloc; "= {status} {last}\n")?;
             text.push_str(told.as_str())?;
@@ -158,7 +200,7 @@ impl Row {
         Ok(())
     }
 
-    // Adds a line for each commit, with the change from which the last mount goes on.
+    // Adds a line for each operation, with the change from which the last mount goes on.
     fn tell_cuts(&self, alloc: Global, text: &mut String) -> Result<(), Memory> {
         for number in 1..=self.cuts {
             let line = format!(in alloc; "{number}:")?;
@@ -179,8 +221,8 @@ impl Row {
     fn tell_planned(&self, alloc: Global, plan: &str, text: &mut String) -> Result<(), Memory> {
         let (format, calls) = self.script.split_once('\n').unwrap_or(("", ""));
         let script = format!(in alloc; "{format}\n{plan}\n{calls}@mount\n@mount\n@room\n@tree\n")?;
-        let (_, got) = self.run(alloc, script.as_str())?;
-        let got = std::str::from_utf8(got.bytes()).unwrap_or("no text");
+        let ended = self.run(alloc, script.as_str())?;
+        let got = std::str::from_utf8(ended.got.bytes()).unwrap_or("no text");
         let mounted = got.lines().filter_map(|line| line.strip_prefix("mounted "));
         let told = mounted.last().unwrap_or("none");
         text.push(' ')?;

@@ -3,9 +3,12 @@ ghost use Rattle.std.specs.Prelude.{◌≤◌};
 
 use kfs_model::Line;
 use kfs_runner::{
-    Incoming, MemShelf, Outgoing, OutsideFault, Shelf, Sink, Source, Unanswered, answer_lines,
+    FileShelf, Incoming, MemShelf, Outgoing, OutsideFault, Shelf, Sink, Source, Unanswered,
+    answer_all, format_map,
 };
+use kv_base::Text;
 use std::alloc::Global;
+use std::fs;
 use std::test::Fail;
 
 #[test]
@@ -19,6 +22,20 @@ fn a_shelf_keeps_what_was_put_and_fails_where_it_is_told(rt: HostRuntime) -> Res
     assert!(&rt; matches!(shelf.put(b"newer"), Err(OutsideFault::Failed)));
     assert!(&rt; shelf.take(alloc).is_err());
     assert!(&rt; matches!(shelf.take(alloc), Ok(bytes) if bytes.as_slice() == b"new".as_slice()));
+    Ok(())
+}
+
+#[test]
+fn a_file_is_a_shelf(rt: HostRuntime) -> Result<(), Fail> {
+    let alloc = rt.alloc();
+    let mut shelf = FileShelf::new(&rt, b"a_file_is_a_shelf.image")?;
+    assert!(&rt; matches!(shelf.take(alloc), Err(OutsideFault::Failed)));
+    assert!(&rt; matches!(shelf.put(b"older"), Ok(())));
+    assert!(&rt; matches!(shelf.put(b"new"), Ok(())));
+    assert!(&rt; matches!(shelf.take(alloc), Ok(bytes) if bytes.as_slice() == b"new".as_slice()));
+    fs::remove_file(&rt, "a_file_is_a_shelf.image")?;
+    assert!(&rt; FileShelf::new(&rt, b"\xff")?.put(b"new").is_err());
+    assert!(&rt; FileShelf::new(&rt, b"")?.put(b"new").is_err());
     Ok(())
 }
 
@@ -44,7 +61,15 @@ fn a_writer_is_a_sink(rt: HostRuntime) {
 fn is_too_long(alloc: Global, most: usize) -> Option<bool>
     requires { 3 ≤ most }
 {
-    match answer_lines(alloc, 256, &[Line::Mount, Line::Mount], most) {
+    let seat = format_map(alloc, 256).ok()?;
+    let mut text = Text::new(alloc, b"ok\n").ok()?;
+    match answer_all(
+        alloc,
+        seat,
+        &[Line::Mount, Line::Mount],
+        most,
+        &mut text,
+    ) {
         Ok(_) => Some(false),
         Err(Unanswered::TooLong) => Some(true),
         Err(Unanswered::Memory) => None,

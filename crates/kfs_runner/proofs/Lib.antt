@@ -4,3 +4,5 @@ pub mod LinesMore
 pub mod LineCount
 pub mod SeatLaws
 pub mod LoadRuns
+pub mod ServedLines
+pub mod Waking

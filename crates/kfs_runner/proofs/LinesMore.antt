@@ -19,7 +19,7 @@ life_at k ls i given s t line answer below is life event =
     let next : take i ls ++ line ∷ [] ≡ take (i + 1) ls = ap (λ l. take i ls ++ l ∷ []) is ∙ sym (take_more ls i line below) in
     subst P next (life_more k newborn s t (take i ls) given line answer life event)
 
-one_counted : (b : Bool) → cond b 1 0 ≡ one_if b
+pub one_counted : (b : Bool) → cond b 1 0 ≡ one_if b
 one_counted true = refl
 one_counted false = refl
 

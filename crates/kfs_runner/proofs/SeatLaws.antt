@@ -67,7 +67,7 @@ seat_stores (Mounted session) s shows =
     record { past = it.0; k = it.1; stands = it.2; saved = it.3; armed = armed_session session.book s shows }
 seat_stores (Bare m age) s shows = shows.stores
 
-seat_room : (seat : Seated) (s : State) → shows_seat seat s → seat_limits seat ≡ limits_in (seat_machine seat)
+pub seat_room : (seat : Seated) (s : State) → shows_seat seat s → seat_limits seat ≡ limits_in (seat_machine seat)
 seat_room (Mounted session) s shows = limits_now session.book s.now shows.now
 seat_room (Bare m age) s shows = refl
 

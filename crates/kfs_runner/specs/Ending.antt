@@ -1,13 +1,12 @@
 -- How a run of the program ends.
-use Rattle.std.specs.Prelude.{None, ℕ, ◌≡◌, ◌≤◌, ◌<◌, ◌⊎◌, ◌++◌, take, nat_lt, if◌then◌else◌, List, [], ◌∷◌, length, codes, Option, Result, Ok, Err, IfSome}
-use Rattle.kfs_path.specs.declared.call.Reply.TheVariants as replies
+use Rattle.std.specs.Prelude.{Some, None, ℕ, ◌≡◌, ◌⊎◌, ◌++◌, nat_lt, if◌then◌else◌, List, [], ◌∷◌, length, codes, Option, Result, Ok, Err, IfSome}
 use Rattle.kfs_model.specs.declared.Line.{Line}
 use Rattle.kfs_model.specs.declared.Line.TheVariants as lines
 use Rattle.kfs_model.specs.declared.Answer.{Answer}
-use Rattle.kfs_model.specs.declared.Answer.TheVariants as answers
-use Rattle.kfs_model.specs.Life.{State, Life, newborn}
+use Rattle.kv_nand.specs.Flash.{Image}
+use Rattle.nand_mem.specs.ImageFile.{image_bytes}
 use Rattle.kfs_script.specs.Script.{script_of}
-use Rattle.kfs_script.specs.AnswerText.{texts_of, and_number, newline}
+use Rattle.kfs_script.specs.AnswerText.{and_number, newline}
 use Rattle.kfs_runner.specs.declared.ending.Ending.{Ending}
 use Rattle.kfs_runner.specs.declared.ending.Ending.TheVariants.{Quiet, Prints}
 use Rattle.kfs_runner.specs.declared.words.Task.{Task}
@@ -15,6 +14,7 @@ use Rattle.kfs_runner.specs.declared.words.Task.TheVariants.{Nothing, Run, Make}
 use Rattle.kfs_runner.specs.Outside.{HasRisen, Takes, TakesSome, IsReadOut}
 use Rattle.kfs_runner.specs.Reading.{script_limit}
 use Rattle.kfs_runner.specs.Numbers.{limits_of}
+use Rattle.kfs_runner.specs.Serving.{IsAnswered, Overflows}
 use Rattle.kfs_runner.specs.Words.{task_of}
 use Rattle.kfs_runner.specs.Load.{load_text}
 
@@ -48,10 +48,6 @@ too_long = codes "script too long" ++ newline
 abbrev pub too_much : List ℕ
 too_much = codes "output too long" ++ newline
 
--- the most bytes of the text of the answers
-abbrev pub output_limit : ℕ
-output_limit = 268435456
-
 -- there is no image yet, so a script begins with a format
 abbrev pub due_by : Result (List Line) ℕ → Due
 due_by (Err number) = Refused 2 (bad_line number)
@@ -68,54 +64,64 @@ due Nothing bytes = Refused 1 bad_words
 due Run bytes = if nat_lt script_limit (length bytes) then Refused 8 too_long else due_by (script_of bytes)
 due (Make seed count blocks) bytes = Made seed count blocks
 
--- answers to the format of so many blocks and to the lines behind it: `ok`, and a life that begins
--- with the tree of a root alone
-abbrev pub AreAnswers : ℕ → List Line → List Answer → Type 0
-AreAnswers blocks ls [] = ⊥
-AreAnswers blocks ls (first ∷ given) = (first ≡ answers.Reply replies.Done) × (end : State) × Life (limits_of blocks) newborn ls given end
+-- the shelf holds the file of this image now, where it tells what it holds
+abbrev pub HoldsImage : Side → ℕ → Image → Side → Type 0
+HoldsImage old blocks image new = IfSome old.bytes (λ _. new.bytes ≡ Some (image_bytes image blocks)) × (new.faults ≡ old.faults)
 
--- the text of the answers to all lines, of at most so many bytes
-pub record IsAnswered (blocks : ℕ) (ls : List Line) (most : ℕ) (text : List ℕ) : Type 0 where
+-- the text of all answers at status 0, with the image on the shelf that stands for a tree with which their life ends
+pub record IsRun (blocks : ℕ) (ls : List Line) (shelf shelf_new : Side) (status : ℕ) (text : List ℕ) : Type 0 where
+  pub status_is : status ≡ 0
   pub given : List Answer
-  pub are : AreAnswers blocks ls given
-  pub same : text ≡ texts_of given
-  pub short : length text ≤ most
+  pub image : Image
+  pub answered : IsAnswered blocks ls given text image
+  pub put : HoldsImage shelf blocks image shelf_new
 
--- the last of the answers to the first lines brings their text above that
-pub record Overflows (blocks : ℕ) (ls : List Line) (most : ℕ) : Type 0 where
-  pub count : ℕ
-  pub given : List Answer
-  pub last : Answer
-  pub some : count ≤ length ls
-  pub are : AreAnswers blocks (take count ls) (given ++ last ∷ [])
-  pub below : length (texts_of given) ≤ most
-  pub above : most < length (texts_of (given ++ last ∷ []))
+-- the answers would be too long, and nothing was put
+pub record IsTooMuch (blocks : ℕ) (ls : List Line) (shelf shelf_new : Side) (status : ℕ) (text : List ℕ) : Type 0 where
+  pub status_is : status ≡ 9
+  pub text_is : text ≡ too_much
+  pub all : List ℕ
+  pub overflows : Overflows (limits_of blocks) ls all
+  pub unput : shelf_new ≡ shelf
 
--- the status and the text that are due; where the script was answered, the source was read to its end
-abbrev pub IsDue : Due → Option (List ℕ) → Option (List ℕ) → ℕ → List ℕ → Type 0
-IsDue (Refused due_status due_text) before now status text = (status ≡ due_status) × (text ≡ due_text)
-IsDue (Made seed count blocks) before now status text = (status ≡ 0) × (text ≡ load_text seed count blocks)
-IsDue (Answered blocks ls) before now status text =
-    IsReadOut before now
-    × (((status ≡ 0) × IsAnswered blocks ls output_limit text) ⊎ ((status ≡ 9) × (text ≡ too_much) × Overflows blocks ls output_limit))
+-- a shelf and a source
+pub record Sides : Type 0 where
+  pub shelf : Side
+  pub source : Side
 
--- the source failed, and so the script that is asked for was not read
-abbrev pub FailsToRead : Task → Side → Side → ℕ → Type 0
-FailsToRead task old new status = (status ≡ 4) × (task ≡ Run) × HasRisen old.faults new.faults
+abbrev pub sides : Side → Side → Sides
+sides shelf source = record { shelf = shelf; source = source }
 
--- only a script takes something of the source
-abbrev pub LeavesSource : List (List ℕ) → Side → Side → Type 0
-LeavesSource words old new = (task_of words ≡ Run → ⊥) → new ≡ old
+-- the status and the text that are due, and what was put; where the script was answered, the source was
+-- read to its end
+abbrev pub IsDue : Due → Sides → Sides → ℕ → List ℕ → Type 0
+IsDue (Refused due_status due_text) old new status text = (status ≡ due_status) × (text ≡ due_text) × (new.shelf ≡ old.shelf)
+IsDue (Made seed count blocks) old new status text = (status ≡ 0) × (text ≡ load_text seed count blocks) × (new.shelf ≡ old.shelf)
+IsDue (Answered blocks ls) old new status text =
+    IsReadOut old.source.bytes new.source.bytes
+    × (IsRun blocks ls old.shelf new.shelf status text ⊎ IsTooMuch blocks ls old.shelf new.shelf status text)
 
--- what a task comes to before its text is written: nothing to write where the source failed (4) or
--- memory was wanting (7), else what is due for it and the source's bytes; a source that failed is told
-abbrev pub TaskComesTo : Task → Side → Side → Ending → Type 0
-TaskComesTo task old new (Quiet status) = FailsToRead task old new status ⊎ ((status ≡ 7) × (new.faults ≡ old.faults))
+-- a run that writes nothing: the source failed (4) and so the script that is asked for was not read, or
+-- memory was wanting (7), and nothing was put; or the shelf failed (6)
+abbrev pub IsQuiet : Task → Sides → Sides → ℕ → Type 0
+IsQuiet task old new status =
+    ((status ≡ 4) × (task ≡ Run) × HasRisen old.source.faults new.source.faults × (new.shelf ≡ old.shelf))
+    ⊎ (((status ≡ 7) × (new.source.faults ≡ old.source.faults) × (new.shelf ≡ old.shelf))
+    ⊎ ((status ≡ 6) × (task ≡ Run) × (new.source.faults ≡ old.source.faults) × HasRisen old.shelf.faults new.shelf.faults))
+
+-- what a task comes to before its text is written: nothing to write, or what is due for it and the
+-- source's bytes
+abbrev pub TaskComesTo : Task → Sides → Sides → Ending → Type 0
+TaskComesTo task old new (Quiet status) = IsQuiet task old new status
 TaskComesTo task old new (Prints status text) =
-    (bytes : List ℕ) × IfSome old.bytes (λ all. bytes ≡ all) × IsDue (due task bytes) old.bytes new.bytes status text × (new.faults ≡ old.faults)
+    (bytes : List ℕ) × IfSome old.source.bytes (λ all. bytes ≡ all) × IsDue (due task bytes) old new status text × (new.source.faults ≡ old.source.faults)
 
-abbrev pub ComesTo : List (List ℕ) → Side → Side → Ending → Type 0
+abbrev pub ComesTo : List (List ℕ) → Sides → Sides → Ending → Type 0
 ComesTo words old new ending = TaskComesTo (task_of words) old new ending
+
+-- only a script takes something of the source, and only its image is put
+abbrev pub LeavesAlone : List (List ℕ) → Sides → Sides → Type 0
+LeavesAlone words old new = (task_of words ≡ Run → ⊥) → new ≡ old
 
 -- the text stands whole behind what the sink got before, or the sink failed (5) and got a first
 -- part of it
@@ -125,17 +131,21 @@ IsWritten (Prints due_status text) old new status =
     ((status ≡ due_status) × Takes old.bytes text new.bytes × (new.faults ≡ old.faults))
     ⊎ ((status ≡ 5) × TakesSome old.bytes text new.bytes × HasRisen old.faults new.faults)
 
--- the whole run: the words, the source and the sink before and after, and the status
-abbrev pub Ends : List (List ℕ) → Side → Side → Side → Side → ℕ → Type 0
-Ends words source source_new sink sink_new status =
-    (ending : Ending) × ComesTo words source source_new ending × IsWritten ending sink sink_new status
+-- the whole run: the words, the shelf and the source before and after, the sink before and after, and
+-- the status
+abbrev pub Ends : List (List ℕ) → Sides → Sides → Side → Side → ℕ → Type 0
+Ends words old new sink sink_new status = (ending : Ending) × ComesTo words old new ending × IsWritten ending sink sink_new status
 
 -- what a load comes to
 abbrev pub IsLoadDue : ℕ → ℕ → ℕ → Ending → Type 0
 IsLoadDue seed count blocks (Quiet status) = status ≡ 7
 IsLoadDue seed count blocks (Prints status text) = (status ≡ 0) × (text ≡ load_text seed count blocks)
 
--- what a script comes to once it is read
-abbrev pub IsScriptDue : Result (List Line) ℕ → Ending → Type 0
-IsScriptDue script (Quiet status) = status ≡ 7
-IsScriptDue script (Prints status text) = IsDue (due_by script) None None status text
+-- a source that told nothing
+abbrev pub unread : Side
+unread = side None 0
+
+-- what a script comes to once it is read, and what was put
+abbrev pub IsScriptDue : Result (List Line) ℕ → Side → Side → Ending → Type 0
+IsScriptDue script old new (Quiet status) = ((status ≡ 7) × (new ≡ old)) ⊎ ((status ≡ 6) × HasRisen old.faults new.faults)
+IsScriptDue script old new (Prints status text) = IsDue (due_by script) (sides old unread) (sides new unread) status text

@@ -3,10 +3,12 @@ pub mod Reading
 pub mod Numbers
 pub mod Words
 pub mod Load
+pub mod Serving
 pub mod Ending
 pub mod Lines
 pub mod Strikes
 pub mod Stores
+pub mod Flashes
 pub mod Seats
 pub mod Causes
 pub mod Counts

@@ -2,6 +2,9 @@
 #![tactic(auto)]
 
 mod ending;
+mod file_shelf;
+mod flash;
+mod flash_seat;
 mod host;
 mod lines;
 mod load;
@@ -11,15 +14,23 @@ mod outside;
 mod reading;
 mod running;
 mod seat;
+mod serving;
 mod standard;
 mod store;
 mod words;
 mod writing;
 
 pub use ending::{Ending, NO_MEMORY};
-pub use lines::{Unanswered, answer_lines};
+pub use file_shelf::FileShelf;
+pub use flash::Resting;
+pub use host::Host;
+pub use lines::{Unanswered, answer_all};
+pub use map_seat::format_map;
 pub use memory::{MemShelf, MemSink, MemSource};
 pub use outside::{OutsideFault, Shelf, Sink, Source};
 pub use running::run_words;
+pub use seat::Seat;
+pub use serving::{ServeFault, Served, serve};
 pub use standard::{Incoming, Outgoing};
+pub use store::Store;
 pub use writing::write_ending;

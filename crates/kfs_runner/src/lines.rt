@@ -3,14 +3,11 @@ ghost use Rattle.std.specs.Prelude.{◌≡◌, ◌≤◌, ◌++◌, ◌^◌, Lis
 ghost use Rattle.kfs_script.specs.AnswerText.{texts_of};
 ghost use Rattle.kfs_model.specs.Life.{State, newborn};
 ghost use Rattle.kfs_script.specs.Script.{IsLine, is_format};
-ghost use Rattle.kfs_runner.specs.Ending.{IsAnswered, Overflows};
 ghost use Rattle.kfs_runner.specs.Lines.{AnsweredFrom, OverflowsFrom};
 ghost use Rattle.kfs_runner.specs.declared.lines.Unanswered.TheVariants.{TooLong, Memory as NoMemory};
 
 use crate::host::Host;
-use crate::map_seat::format_map;
-use kfs_path::Reply;
-use kfs_script::{Answer, Line, write_answer};
+use kfs_script::{Line, write_answer};
 use kv_base::{Memory, Text};
 use std::alloc::Global;
 
@@ -49,6 +46,7 @@ pub fn answer_all<H: Host>(
     requires room { (H.limits host).keys ≤ 68544 }
     requires short { length text.old ≤ most }
     ensures ok { IfOk result (λ left. AnsweredFrom (H.limits host) lines.now most text.old text.new (H.shows left) (H.strikes host) (H.strikes left)) }
+    ensures limits { IfOk result (λ left. H.limits left ≡ H.limits host) }
     ensures device_age { IfOk result (λ left. H.device_age left < 2 ^ 62) }
     ensures long { IfErr result (λ e. e ≡ TooLong → OverflowsFrom (H.limits host) lines.now most text.old text.new) }
 {
@@ -62,28 +60,4 @@ pub fn answer_all<H: Host>(
         }
     }
     Ok(host)
-}
-
-/// The text of the answers to a format of so many blocks and to the lines behind it, of at most so
-/// many bytes.
-pub fn answer_lines(
-    alloc: Global,
-    blocks: u16,
-    lines: &[Line],
-    most: usize,
-) -> Result<Text, Unanswered>
-    requires fewest { 256 ≤ blocks }
-    requires blocks { blocks ≤ 2048 }
-    requires few { length lines.now ≤ 2 ^ 23 }
-    requires lines { All IsLine lines.now }
-    requires formats { All (λ line. is_format line ≡ false) lines.now }
-    requires room { 3 ≤ most }
-    ensures ok { IfOk result (λ text. IsAnswered blocks lines.now most text) }
-    ensures long { IfErr result (λ e. e ≡ TooLong → Overflows blocks lines.now most) }
-{
-    let seat = format_map(alloc, blocks)?;
-    let mut text = Text::new(alloc, b"")?;
-    write_answer(alloc, &mut text, &Answer::Reply(Reply::Done))?;
-    let _ = answer_all(alloc, seat, lines, most, &mut text)?;
-    Ok(text)
 }

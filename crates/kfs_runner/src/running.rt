@@ -1,28 +1,42 @@
 // Scripts from their bytes to what they come to.
-ghost use Rattle.std.specs.Prelude.{◌≡◌, ◌≤◌, ◌∷◌, length, Ok, All, false};
+ghost use Rattle.std.specs.Prelude.{◌≡◌, ◌≤◌, ◌∷◌, length, Ok, IfSome, IfErr, OnOk, true};
 ghost use Rattle.kfs_script.specs.Script.{script_of, IsScript};
-ghost use Rattle.kfs_script.specs.Script.{IsLine, is_format};
 ghost use Rattle.kfs_model.specs.declared.Line.TheVariants as formats;
-ghost use Rattle.kfs_runner.specs.Ending.{ComesTo, LeavesSource, side, TaskComesTo, IsLoadDue, IsScriptDue};
+ghost use Rattle.nand_mem.specs.MemNand.{mem};
+ghost use Rattle.kfs_runner.specs.declared.outside.OutsideFault.TheVariants.{Failed, Memory as NoMemory};
+ghost use Rattle.kfs_runner.specs.Outside.{HasRisen};
+ghost use Rattle.kfs_runner.specs.Serving.{formats};
+ghost use Rattle.kfs_runner.specs.Ending.{ComesTo, LeavesAlone, side, sides, TaskComesTo, HoldsImage, IsLoadDue, IsScriptDue};
 
 use crate::ending::{Ending, NO_MEMORY, line_refused, refused};
-use crate::lines::{Unanswered, answer_lines};
 use crate::load::load_line;
-use crate::outside::Source;
+use crate::outside::{OutsideFault, Shelf, Source};
 use crate::reading::{Unread, read_to_end};
+use crate::serving::{ServeFault, serve};
 use crate::words::{Task, task_of};
-use kfs_script::{Line, ScriptFault, read_script};
+use kfs_script::{Line, Script, ScriptFault, read_script};
 use kv_base::Text;
+use nand_mem::MemNand;
 use std::alloc::Global;
 
-/// What the words come to, with the script of a source where they ask for one.
-pub fn run_words<S: Source>(alloc: Global, words: &Vec<Text>, script: &mut S) -> Ending
-    ensures comes { ComesTo words.now.items (side (S.left script.old) (S.faults script.old)) (side (S.left script.new) (S.faults script.new)) result }
-    ensures unread { LeavesSource words.now.items (side (S.left script.old) (S.faults script.old)) (side (S.left script.new) (S.faults script.new)) }
+/// What the words come to, with the script of a source where they ask for one. The image of its
+/// flash is put on the shelf where all lines are answered.
+pub fn run_words<H: Shelf, S: Source>(
+    alloc: Global,
+    words: &Vec<Text>,
+    shelf: &mut H,
+    script: &mut S,
+) -> Ending
+    ensures comes { ComesTo words.now.items
+        (sides (side (H.held shelf.old) (H.faults shelf.old)) (side (S.left script.old) (S.faults script.old)))
+        (sides (side (H.held shelf.new) (H.faults shelf.new)) (side (S.left script.new) (S.faults script.new))) result }
+    ensures alone { LeavesAlone words.now.items
+        (sides (side (H.held shelf.old) (H.faults shelf.old)) (side (S.left script.old) (S.faults script.old)))
+        (sides (side (H.held shelf.new) (H.faults shelf.new)) (side (S.left script.new) (S.faults script.new))) }
 {
     match task_of(words) {
         Task::Nothing => refused(alloc, 1, b"bad words\n"),
-        Task::Run => run_source(alloc, script),
+        Task::Run => run_source(alloc, shelf, script),
         Task::Make {
             seed,
             count,
@@ -32,11 +46,13 @@ pub fn run_words<S: Source>(alloc: Global, words: &Vec<Text>, script: &mut S) ->
 }
 
 // What the script of a source comes to.
-fn run_source<S: Source>(alloc: Global, script: &mut S) -> Ending
-    ensures { TaskComesTo Task.Run (side (S.left script.old) (S.faults script.old)) (side (S.left script.new) (S.faults script.new)) result }
+fn run_source<H: Shelf, S: Source>(alloc: Global, shelf: &mut H, script: &mut S) -> Ending
+    ensures { TaskComesTo Task.Run
+        (sides (side (H.held shelf.old) (H.faults shelf.old)) (side (S.left script.old) (S.faults script.old)))
+        (sides (side (H.held shelf.new) (H.faults shelf.new)) (side (S.left script.new) (S.faults script.new))) result }
 {
     match read_to_end(alloc, script) {
-        Ok(text) => run_script(alloc, text.bytes()),
+        Ok(text) => run_script(alloc, text.bytes(), shelf),
         Err(Unread::Failed) => Ending::Quiet(4),
         Err(Unread::TooLong) => refused(alloc, 8, b"script too long\n"),
         Err(Unread::Memory) => Ending::Quiet(NO_MEMORY),
@@ -58,44 +74,58 @@ fn make_load(alloc: Global, seed: u64, count: u32, blocks: u16) -> Ending
 }
 
 // What a script comes to.
-fn run_script(alloc: Global, bytes: &[u8]) -> Ending
+fn run_script<H: Shelf>(alloc: Global, bytes: &[u8], shelf: &mut H) -> Ending
     requires { length bytes.now ≤ 16777216 }
-    ensures { IsScriptDue (script_of bytes.now) result }
+    ensures { IsScriptDue (script_of bytes.now) (side (H.held shelf.old) (H.faults shelf.old)) (side (H.held shelf.new) (H.faults shelf.new)) result }
 {
     match read_script(alloc, bytes) {
-        Ok(script) => run_lines(alloc, script.lines()),
+        Ok(script) => run_lines(alloc, &script, shelf),
         Err(ScriptFault::BadLine(number)) => line_refused(alloc, number),
         Err(ScriptFault::Memory) => Ending::Quiet(NO_MEMORY),
     }
 }
 
 // What the lines of a script come to.
-fn run_lines(alloc: Global, lines: &[Line]) -> Ending
-    requires lines { IsScript lines.now }
-    requires few { length lines.now ≤ 8388608 }
-    ensures { IsScriptDue (Ok lines.now) result }
+fn run_lines<H: Shelf>(alloc: Global, script: &Script, shelf: &mut H) -> Ending
+    requires few { length script.now ≤ 8388608 }
+    ensures { IsScriptDue (Ok script.now) (side (H.held shelf.old) (H.faults shelf.old)) (side (H.held shelf.new) (H.faults shelf.new)) result }
 {
-    match lines.split_first() {
-        Some((Line::Format(blocks), more)) => run_formatted(alloc, *blocks, more),
+    match script.lines().first() {
+        Some(Line::Format(blocks)) => run_formatted(alloc, *blocks, script, shelf),
         _ => refused(alloc, 3, b"bad image\n"),
     }
 }
 
-// The most bytes of the text of the answers.
-const OUTPUT_LIMIT: usize = 268_435_456;
-
-// What a format of so many blocks and the lines behind it come to.
-fn run_formatted(alloc: Global, blocks: u16, lines: &[Line]) -> Ending
+// What a format of so many blocks and the lines behind it come to, on a new flash.
+fn run_formatted<H: Shelf>(alloc: Global, blocks: u16, script: &Script, shelf: &mut H) -> Ending
     requires fewest { 256 ≤ blocks }
     requires most { blocks ≤ 2048 }
-    requires few { length lines.now ≤ 8388608 }
-    requires lines { All IsLine lines.now }
-    requires formats { All (λ line. is_format line ≡ false) lines.now }
-    ensures { IsScriptDue (Ok (formats.Format blocks ∷ lines.now)) result }
+    requires few { length script.now ≤ 8388608 }
+    requires formats { formats blocks script.now ≡ true }
+    ensures { IsScriptDue (Ok script.now) (side (H.held shelf.old) (H.faults shelf.old)) (side (H.held shelf.new) (H.faults shelf.new)) result }
 {
-    match answer_lines(alloc, blocks, lines, OUTPUT_LIMIT) {
-        Ok(text) => Ending::Prints(0, text),
-        Err(Unanswered::TooLong) => refused(alloc, 9, b"output too long\n"),
-        Err(Unanswered::Memory) => Ending::Quiet(NO_MEMORY),
+    let Ok(nand) = MemNand::fresh(alloc, blocks) else {
+        return Ending::Quiet(NO_MEMORY);
+    };
+    match serve(alloc, nand, script) {
+        Ok(served) => match put_image(alloc, &served.nand, shelf) {
+            Ok(()) => Ending::Prints(0, served.text),
+            Err(OutsideFault::Failed) => Ending::Quiet(6),
+            Err(OutsideFault::Memory) => Ending::Quiet(NO_MEMORY),
+        },
+        Err(ServeFault::TooLong(_)) => refused(alloc, 9, b"output too long\n"),
+        Err(ServeFault::Memory) => Ending::Quiet(NO_MEMORY),
     }
+}
+
+// Puts the image of a flash on the shelf.
+fn put_image<H: Shelf>(alloc: Global, nand: &MemNand, shelf: &mut H) -> Result<(), OutsideFault>
+    ensures ok { OnOk result (HoldsImage (side (H.held shelf.old) (H.faults shelf.old)) (mem nand.now).flash.blocks (mem nand.now).flash.image (side (H.held shelf.new) (H.faults shelf.new))) }
+    ensures failed { IfErr result (λ fault. fault ≡ Failed → HasRisen (H.faults shelf.old) (H.faults shelf.new)) }
+    ensures unput { IfErr result (λ fault. fault ≡ NoMemory → (side (H.held shelf.new) (H.faults shelf.new)) ≡ (side (H.held shelf.old) (H.faults shelf.old))) }
+{
+    let Ok(image) = nand.to_image(alloc) else {
+        return Err(OutsideFault::Memory);
+    };
+    shelf.put(image.bytes())
 }

@@ -1,0 +1,24 @@
+-- A flash on which no device is mounted.
+use Rattle.std.proofs.Common.{◌≡◌, ◌∙◌, true, false, inl, inr, refl, sym, ap}
+use Rattle.std.proofs.lemmas.Bool.{false≢true}
+use Rattle.kv_nand.specs.Flash.{Flash}
+use Rattle.kv_nand.specs.declared.fault.MountFault.{MountFault}
+use Rattle.kv_nand.specs.declared.fault.MountFault.TheVariants as mount
+use Rattle.kv_device.specs.Machine.{Machine}
+use Rattle.kssd_image.specs.Whole.{Sound}
+use Rattle.kssd_image.proofs.OneDamage.{sound_has_none}
+use Rattle.kssd_machine.specs.Machines.{resting}
+use Rattle.kssd_mount.specs.Mounting.{FailsMounting}
+use Rattle.kfs_runner.specs.Flashes.{host_fault}
+use Rattle.kfs_runner.specs.Stores.{NotWoken}
+
+-- a mount that fails on a flash with power leaves a device that is down, with the same objects
+pub not_woken : (old new : Flash) (fault : MountFault) → Sound old.blocks old.image → old.powered ≡ true → FailsMounting old fault new → NotWoken (resting old) (host_fault fault) (resting new)
+not_woken old new (mount.Damaged damage) sound on fails = absurd (sound_has_none old.blocks old.image damage sound fails.0)
+not_woken old new mount.Off sound on (inl dark) = absurd (false≢true (sym dark.0 ∙ on))
+not_woken old new mount.Off sound on (inr fails) = record { cause = (fails.1.0, ap (λ (m : Machine). m.faults) fails.1.1); same = fails.1.1 ∙ λ i. record (resting old) { cuts = (resting new).cuts; faults = sym (ap (λ (m : Machine). m.faults) fails.1.1) i } }
+not_woken old new mount.Failed sound on fails = record { cause = (fails.1.0, ap (λ (m : Machine). m.cuts) fails.1.1); same = fails.1.1 ∙ λ i. record (resting old) { cuts = sym (ap (λ (m : Machine). m.cuts) fails.1.1) i; faults = (resting new).faults } }
+not_woken old new mount.Memory sound on fails =
+    let cuts = ap (λ (m : Machine). m.cuts) fails in
+    let faults = ap (λ (m : Machine). m.faults) fails in
+    record { cause = (cuts, faults); same = fails ∙ λ i. record (resting old) { cuts = sym cuts i; faults = sym faults i } }

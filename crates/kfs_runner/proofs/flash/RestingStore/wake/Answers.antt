@@ -1,0 +1,26 @@
+use Rattle.std.proofs.Common.{◌≡◌, true, refl, sym, ap, subst}
+use Rattle.kv_nand.specs.Flash.{Flash}
+use Rattle.kv_nand.specs.Calls.{powered_on}
+use Rattle.kssd_image.specs.Whole.{Sound}
+use Rattle.kssd_machine.specs.Machines.{resting}
+use Rattle.kssd_mount.specs.Mounting.{FailsMounting}
+use Rattle.kssd_mount.proofs.Taking.{taken}
+use Rattle.kfs_core.specs.declared.fault.HostFault.{HostFault}
+use Rattle.kfs_runner.specs.Stores.{NotWoken}
+use Rattle.kfs_runner.proofs.Waking.{not_woken}
+use Rattle.kfs_runner.proofs.flash.RestingStore.wake.Goals as goal
+
+pub mount-requires-clause-sound : goal.mount-requires-clause-sound
+mount-requires-clause-sound g c =
+    let old = g.N.Nand.flash c.args.self.nand in
+    let P : Flash → Type 0 = λ f. Sound f.blocks f.image in
+    subst P (sym c.power_on.ensures) (taken old.blocks old.image c.args.self.whole.whole c.requires)
+
+pub returns-in-Err-clause-err : goal.returns-in-Err-clause-err
+returns-in-Err-clause-err g c =
+    let old = g.N.Nand.flash c.args.self.nand in
+    let new = g.N.Nand.flash c.in-Err.nand in
+    let P : Flash → Type 0 = λ f. FailsMounting f c.in-Err.fault new in
+    let Q : HostFault → Type 0 = λ fault. NotWoken (resting old) fault (resting new) in
+    let sound = taken old.blocks old.image c.args.self.whole.whole c.requires in
+    subst Q (sym c.host_fault.ensures) (not_woken (powered_on old) new c.in-Err.fault sound refl (subst P c.power_on.ensures c.in-Err.ensures.err))

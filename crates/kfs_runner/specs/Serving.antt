@@ -1,0 +1,102 @@
+-- What doing the lines of a script on a flash gives.
+use Rattle.std.specs.Prelude.{ℕ, ◌≡◌, ◌≤◌, ◌<◌, ◌+◌, ◌++◌, ◌==◌, ◌^◌, Bool, true, false, List, [], ◌∷◌, length, take, drop}
+use Rattle.std.specs.List.{count_by}
+use Rattle.kv_nand.specs.Flash.{Flash, Image}
+use Rattle.kfs_path.specs.declared.call.Reply.TheVariants as replies
+use Rattle.kfs_model.specs.declared.Line.{Line}
+use Rattle.kfs_model.specs.declared.Line.TheVariants as lines
+use Rattle.kfs_model.specs.declared.Answer.{Answer}
+use Rattle.kfs_model.specs.declared.Answer.TheVariants as answers
+use Rattle.kfs_model.specs.Life.{State, Life, Past, tree_at, newborn}
+use Rattle.kfs_script.specs.AnswerText.{texts_of}
+use Rattle.kfs_posix.specs.Showing.{IsSaved}
+use Rattle.kssd_image.specs.Stages.{objects_in}
+use Rattle.kssd_image.specs.Whole.{Sound}
+use Rattle.kfs_runner.specs.declared.serving.ServeFault.{ServeFault}
+use Rattle.kfs_runner.specs.declared.serving.ServeFault.TheVariants.{TooLong, Memory}
+use Rattle.kfs_runner.specs.Numbers.{limits_of}
+use Rattle.kfs_posix.specs.Mounting.{limits_in}
+use Rattle.kfs_model.specs.Tree.{Limits}
+use Rattle.kv_device.specs.Machine.{Machine}
+use Rattle.kfs_runner.specs.Seats.{StandsAt, Stores}
+use Rattle.kfs_runner.specs.Strikes.{Strikes, strikes_of, struck_by, is_cut, is_failure}
+
+-- the most bytes of the text of the answers
+abbrev pub output_limit : ℕ
+output_limit = 268435456
+
+-- the first line formats a device of so many blocks
+abbrev pub formats : ℕ → List Line → Bool
+formats blocks [] = false
+formats blocks (lines.Format wanted ∷ more) = wanted == blocks
+formats blocks (line ∷ more) = false
+
+-- power is on, and no cut and no fault is planned
+pub record IsUnplanned (flash : Flash) : Type 0 where
+  pub powered : flash.powered ≡ true
+  pub cuts : flash.most_cuts ≡ flash.cuts
+  pub faults : flash.most_faults ≡ flash.faults
+  pub few_cuts : flash.cuts ≤ 2 ^ 62
+  pub few_faults : flash.faults ≤ 2 ^ 62
+
+-- a mount takes the image, and its objects stand for a tree of the life's past at which the device may
+-- stand: they show it, or that without some of its nameless nodes
+pub record StandsFor (blocks : ℕ) (image : Image) (end : State) : Type 0 where
+  pub sound : Sound blocks image
+  pub past : Past
+  pub k : ℕ
+  pub stands : StandsAt end.now past k
+  pub saved : IsSaved (limits_of blocks) (objects_in image) (tree_at past k) k
+
+-- answers to a format and to the lines behind it, on a device that holds so much: `ok`, and a life that
+-- begins with the tree of a root alone
+abbrev pub AreAnswers : Limits → List Line → List Answer → State → Type 0
+AreAnswers limits ls [] end = ⊥
+AreAnswers limits ls (first ∷ given) end = (first ≡ answers.Reply replies.Done) × Life limits newborn ls given end
+
+-- the text of the answers to all lines, of at most so many bytes, and an image that stands for a tree
+-- with which their life ends
+pub record IsAnswered (blocks : ℕ) (ls : List Line) (given : List Answer) (text : List ℕ) (image : Image) : Type 0 where
+  pub end : State
+  pub are : AreAnswers (limits_of blocks) ls given end
+  pub same : text ≡ texts_of given
+  pub short : length text ≤ output_limit
+  pub stands : StandsFor blocks image end
+
+-- the text of the answers to the first lines, of which the last brings it above the limit
+pub record Overflows (limits : Limits) (ls : List Line) (text : List ℕ) : Type 0 where
+  pub count : ℕ
+  pub given : List Answer
+  pub last : Answer
+  pub end : State
+  pub some : count ≤ length ls
+  pub are : AreAnswers limits (take count ls) (given ++ last ∷ []) end
+  pub same : text ≡ texts_of (given ++ last ∷ [])
+  pub below : length (texts_of given) ≤ output_limit
+  pub above : output_limit < length text
+
+-- the lines behind a format were done on a device that rests now: their answers, each cut and each fault
+-- told by one, and a tree with which their life ends is stored
+pub record AreDone (limits : Limits) (ls : List Line) (text : List ℕ) (before : Strikes) (device : Machine) : Type 0 where
+  pub given : List Answer
+  pub end : State
+  pub are : AreAnswers limits ls given end
+  pub same : text ≡ texts_of given
+  pub short : length text ≤ output_limit
+  pub stores : Stores device end
+  pub room : limits_in device ≡ limits
+  pub strikes : strikes_of device ≡ struck_by before given
+
+-- the lines behind a format were done on a flash: their answers, each cut and each fault of the flash
+-- told by one, and what the flash holds then
+pub record IsServed (ls : List Line) (text : List ℕ) (old new : Flash) : Type 0 where
+  pub given : List Answer
+  pub blocks : new.blocks ≡ old.blocks
+  pub answered : IsAnswered old.blocks ls given text new.image
+  pub cuts : new.cuts ≡ old.cuts + count_by is_cut given
+  pub faults : new.faults ≡ old.faults + count_by is_failure given
+
+-- an answer brought the text above the limit, or memory was wanting
+abbrev pub StopsServing : Limits → List Line → ServeFault → Type 0
+StopsServing limits ls (TooLong text) = Overflows limits ls text
+StopsServing limits ls Memory = Unit {0}

@@ -1,0 +1,57 @@
+// A session over a device on flash.
+ghost use Rattle.std.specs.Prelude.{◌≡◌, ◌≤◌, ◌+◌, ◌^◌, true, IfOk};
+ghost use Rattle.std.specs.FinMap as objects;
+ghost use Rattle.kfs_model.specs.Life.{newborn};
+ghost use Rattle.kssd_machine.specs.Machines.{resting};
+ghost use Rattle.kssd_image.specs.Stages.{objects_in};
+ghost use Rattle.kssd_image.specs.Whole.{Sound, age_in};
+ghost use Rattle.kfs_runner.specs.Flashes.{new_on};
+ghost use Rattle.kfs_runner.specs.Numbers.{limits_of};
+ghost use Rattle.kfs_runner.specs.Serving.{IsUnplanned};
+ghost use Rattle.kfs_runner.specs.Strikes.{strikes_of};
+
+use crate::flash::Resting;
+use crate::host::Host;
+use crate::seat::Seat;
+use kfs_core::format;
+use kssd_engine::Ssd;
+use kv_base::Memory;
+use kv_device::Device;
+use kv_nand::{Nand, PlannedNand};
+use std::alloc::Global;
+
+// An empty device on a flash.
+fn new_device<N: Nand + Drop>(alloc: Global, nand: N) -> Result<Ssd<N>, Memory>
+    requires { (256 ≤ (N.flash nand).blocks) × ((N.flash nand).blocks ≤ 2048) }
+    ensures machine { IfOk result (λ device. ⟦<Ssd<N> as Device>⟧.machine device ≡ new_on (N.flash nand)) }
+    ensures age { IfOk result (λ device. ⟦<Ssd<N> as Device>⟧.age device ≤ 2 ^ 21) }
+{
+    let mut nand = nand;
+    if kssd_recover::format(alloc, &mut nand).is_err() {
+        return Err(Memory);
+    }
+    match Ssd::mount(alloc, nand) {
+        Ok(device) => Ok(device),
+        Err(_) => Err(Memory),
+    }
+}
+
+/// A new file system on a flash, mounted.
+pub fn format_flash<N: PlannedNand + Drop>(
+    alloc: Global,
+    nand: N,
+) -> Result<Seat<Resting<N>>, Memory>
+    requires blocks { (256 ≤ (N.flash nand).blocks) × ((N.flash nand).blocks ≤ 2048) }
+    requires unplanned { IsUnplanned (N.flash nand) }
+    ensures shows { IfOk result (λ seat. ⟦<Seat<Resting<N>> as Host>⟧.shows seat newborn) }
+    ensures limits { IfOk result (λ seat. ⟦<Seat<Resting<N>> as Host>⟧.limits seat ≡ limits_of (N.flash nand).blocks) }
+    ensures age { IfOk result (λ seat. ⟦<Seat<Resting<N>> as Host>⟧.age seat ≤ 2 ^ 62) }
+    ensures device_age { IfOk result (λ seat. ⟦<Seat<Resting<N>> as Host>⟧.device_age seat ≤ 2 ^ 60) }
+    ensures strikes { IfOk result (λ seat. ⟦<Seat<Resting<N>> as Host>⟧.strikes seat ≡ strikes_of (new_on (N.flash nand))) }
+{
+    let mut device = new_device(alloc, nand)?;
+    match format(alloc, &mut device) {
+        Ok(()) => Seat::begin(alloc, device),
+        Err(_) => Err(Memory),
+    }
+}
