@@ -1,14 +1,12 @@
 -- What stays of an index where pages of values alone differ.
-use Rattle.std.proofs.Common.{◌≡◌, ◌∙◌, ℕ, ◌+◌, ◌-◌, ◌/◌, ◌<◌, ◌≤◌, max, List, [], length, sym, ap, subst, arith, inl, inr}
+use Rattle.std.proofs.Common.{◌≡◌, ◌∙◌, ℕ, ◌+◌, ◌-◌, ◌/◌, ◌<◌, ◌≤◌, max, List, [], sym, ap, subst, arith, inl, inr}
 use Rattle.std.proofs.lemmas.Bool.{cases_lt}
 use Rattle.kv_nand.specs.Flash.{Image}
 use Rattle.kssd_layout.specs.Numbers.{region_in, first_value_block_in}
 use Rattle.kssd_layout.specs.declared.region.Region.TheVariants as regions
 use Rattle.kssd_entry.specs.declared.entry.Entry.{Entry}
-use Rattle.kssd_model.specs.declared.anchor.Anchor.{Anchor}
 use Rattle.kssd_model.specs.Groups.{Walk, rest_from, turn_count}
 use Rattle.kssd_image.specs.AnchorForm.{IsAnchorForm, anchor_age}
-use Rattle.kssd_image.specs.Whole.{age_by}
 use Rattle.kssd_frames.specs.Same.{as_counted, StaysBy}
 use Rattle.kssd_frames.proofs.Places.{region_of_values, run_pages_named}
 use Rattle.kssd_frames.proofs.SameImages.{newest_in_alike, index_stays}

@@ -11,4 +11,3 @@ pub mod Free
 pub mod Keeping
 pub mod Spare
 pub mod Staying
-pub mod OneRun

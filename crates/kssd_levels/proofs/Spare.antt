@@ -183,5 +183,4 @@ job_blocks_suffice levels =
       zero = λ most. omega (arith, upper, h.zero_entries, h.one_entries, h.free, h.named, h.base_most);
       one_most = omega (arith, lower, h.one_entries, h.base_entries, h.one_most, h.base_most);
       one = omega (arith, lower, h.one_entries, h.base_entries, h.one_most, h.base_most, h.free, h.named);
-      whole = omega (arith, h.one_most, h.base_most, h.free, h.named);
     }

@@ -5,7 +5,6 @@ pub mod Two
 pub mod TwoLaws
 pub mod First
 pub mod Written
-pub mod Alone
 pub mod Sound
 pub mod Levels
 pub mod Over

@@ -230,7 +230,7 @@ fn first_of<N: Nand, S: Ordered + Drop>(
 }
 
 // The run alone, or nothing where it has no entries.
-pub(crate) fn written_list(alloc: Global, run: Run) -> Result<RunList, Memory>
+fn written_list(alloc: Global, run: Run) -> Result<RunList, Memory>
     ensures { IfOk result (λ runs. runs ≡ written run) }
 {
     let mut runs = RunList::new(alloc);

@@ -1,7 +1,6 @@
 //! The sorted runs of a device by levels, with the newest entry of each key.
 #![tactic(auto)]
 
-mod alone;
 mod kind;
 mod laws;
 mod levels;
