@@ -1,5 +1,5 @@
 -- The charge and the chunks that a mount counts are the tree's.
-use Rattle.std.proofs.Common.{◌≡◌, ◌≢◌, ℕ, suc, ◌<◌, ◌≤◌, ◌+◌, ◌-◌, ◌*◌, ◌^◌, ◌&&◌, inl, inr, not, true, false, cond, Bool, T, refl, sym, ◌∙◌, ap, arith, List, [], ◌∷◌, ◌++◌, length, map, filter, take, sum_by, Option, Some, None}
+use Rattle.std.proofs.Common.{◌≡◌, ◌≢◌, ℕ, suc, ◌<◌, ◌≤◌, ◌+◌, ◌-◌, ◌*◌, ◌^◌, ◌&&◌, inl, inr, not, true, false, cond, Bool, T, refl, sym, ◌∙◌, ap, arith, List, [], ◌∷◌, ◌++◌, length, map, min, filter, take, sum_by, Option, Some, None}
 use Rattle.std.specs.Option.{option_map}
 use Rattle.std.specs.Ordering.{nat_cmp, eq_by_cmp, is_eq, is_lt, is_gt}
 use Rattle.std.specs.declared.cmp.Ordering.{Ordering}
@@ -9,7 +9,7 @@ use Rattle.std.specs.Cmp.Lexicographic.{nat_list_cmp_total}
 use Rattle.std.specs.FinMap as objects
 use Rattle.std.specs.FinMap.{find, is_sorted}
 use Rattle.std.specs.FinMap.Entries.{below_all, same_entries, is_sorted-where_key, find-where_key}
-use Rattle.std.proofs.lemmas.List.{take_all}
+use Rattle.std.proofs.lemmas.List.{take_all, length-map, length-take}
 use Rattle.std.proofs.lemmas.List.Sums.{sum_by-cons}
 use Rattle.kv_base.specs.declared.pairs.Pair.{Pair}
 use Rattle.kv_device.specs.Bytes.{bytes_cmp}
@@ -35,6 +35,11 @@ pub all_weighed : (weight : Option (ℕ × ℕ) → ℕ) (pairs : List Pair) (es
     → sum_by (λ (p : Pair). weight (read_inode p.value)) (take i pairs) ≡ sum_by (λ (e : List ℕ × List ℕ). weight (read_inode e.1)) es
 all_weighed weight pairs es i e le =
     ap (sum_by (λ (p : Pair). weight (read_inode p.value))) (take_all i pairs le) ∙ sum_map pair_of (λ (e : List ℕ × List ℕ). weight (read_inode e.1)) pairs ∙ ap (sum_by (λ (e : List ℕ × List ℕ). weight (read_inode e.1))) e
+
+pub few_taken : (pairs : List Pair) (es : List (List ℕ × List ℕ)) (n : ℕ) → map pair_of pairs ≡ take n es → length pairs ≤ n
+few_taken pairs es n e =
+    let long : length pairs ≡ min n (length es) = sym (length-map pairs pair_of) ∙ ap (λ (l : List (List ℕ × List ℕ)). length l) e ∙ length-take n es in
+    omega arith
 
 abbrev inodes : List (ℕ × Node) → List (List ℕ × List ℕ)
 inodes [] = []

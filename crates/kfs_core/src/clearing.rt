@@ -6,7 +6,7 @@ ghost use Rattle.kfs_core.specs.Clearing.{Clears, ClearFails, IsFresh, NoOrphans
 
 use crate::dropping::{GREATEST_LENGTH, drop_node};
 use crate::walking::inode;
-use kfs_objects::{ObjectKey, read_key};
+use kfs_objects::{ObjectKey, orphan_prefix, read_key};
 use kfs_tx::Running;
 use kv_base::Key;
 use kv_device::{Device, DeviceFault};
@@ -21,9 +21,7 @@ fn first_orphan<D: Device>(alloc: Global, run: &mut Running<D>) -> Result<Option
     ensures err { IfErr result (λ fault. GetFault run.old.run fault run.new.run.machine) }
     ensures age { Aged run.old run.new 0 }
 {
-    let Ok(prefix) = Key::new(alloc, b"o") else {
-        return Err(DeviceFault::Memory);
-    };
+    let prefix = orphan_prefix(alloc)?;
     let pairs = run.iterate(alloc, &prefix, &prefix, 1)?;
     if pairs.len() == 0 {
         return Ok(None);

@@ -23,6 +23,7 @@ fn weigh(value: &Value) -> Option<(u64, u64)>
     ensures keys { IfSome result (λ n. n.0 ≡ weigh (read_inode value.now)) }
     ensures chunks { IfSome result (λ n. n.1 ≡ weigh_chunks (read_inode value.now)) }
     ensures fewer { IfSome result (λ n. n.1 ≤ n.0) }
+    ensures most { IfSome result (λ n. n.0 ≤ 258) }
 {
     match Inode::read(value) {
         None => Some((0, 0)),
@@ -52,13 +53,10 @@ pub fn count<D: Device>(alloc: Global, run: &mut Running<D>) -> Result<Taken, De
     for pair in pairs.as_slice() {
         match weigh(&pair.value) {
             None => return Err(DeviceFault::Memory),
-            Some((keys, more)) => match charge.checked_add(keys) {
-                None => return Err(DeviceFault::Memory),
-                Some(sum) => {
-                    charge = sum;
-                    chunks += more;
-                }
-            },
+            Some((keys, more)) => {
+                charge += keys;
+                chunks += more;
+            }
         }
     }
     Ok(Taken { charge, chunks })

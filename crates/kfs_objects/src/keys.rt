@@ -1,6 +1,6 @@
 ghost use Rattle.std.specs.Prelude.{◌≡◌, ◌++◌, [], IfOk, IfSome, IfNone};
 ghost use Rattle.kv_base.specs.Sizes.{IsKey};
-ghost use Rattle.kfs_objects.specs.Keys.{super_key, inode_front, inode_key, entry_key, chunk_key, orphan_key, IsNamed, IsObjectKey};
+ghost use Rattle.kfs_objects.specs.Keys.{super_key, inode_front, orphan_front, inode_key, entry_key, chunk_key, orphan_key, IsNamed, IsObjectKey};
 ghost use Rattle.kfs_objects.specs.Forms.{SpellsKey};
 
 use kv_base::{Key, Memory, SizeFault, be32_at, be64_at};
@@ -49,6 +49,13 @@ pub fn inode_prefix(alloc: Global) -> Result<Key, Memory>
     ensures { IfOk result (λ key. key ≡ inode_front) }
 {
     key_of(alloc, b"i")
+}
+
+/// With which the keys of the nodes without a name begin.
+pub fn orphan_prefix(alloc: Global) -> Result<Key, Memory>
+    ensures { IfOk result (λ key. key ≡ orphan_front) }
+{
+    key_of(alloc, b"o")
 }
 
 /// With which the keys of a directory's entries begin.

@@ -6,8 +6,8 @@ mod laws;
 mod records;
 
 pub use keys::{
-    ObjectKey, chunk_key, entry_key, entry_prefix, inode_key, inode_prefix, orphan_key, read_key,
-    super_key,
+    ObjectKey, chunk_key, entry_key, entry_prefix, inode_key, inode_prefix, orphan_key,
+    orphan_prefix, read_key, super_key,
 };
 pub use laws::{one_key, read_back};
 pub use records::{EntryRecord, Inode, Super, orphan_value};

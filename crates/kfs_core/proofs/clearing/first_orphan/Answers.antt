@@ -9,10 +9,10 @@ pub returns-then-len-eq0-clause-none : goal.returns-then-len-eq0-clause-none
 returns-then-len-eq0-clause-none g c =
     let m = seen c.args.run.now.run in
     none_there m c.in_ok-pairs.pairs (sym c.len.ensures ∙ c.if-len-eq0.true)
-    (c.in_ok-pairs.ensures.found ∙ ap (λ (k : List ℕ). take 1 (pairs_from m k k)) c.in-Ok.ensures.ok.0)
+    (c.in_ok-pairs.ensures.found ∙ ap (λ (k : List ℕ). take 1 (pairs_from m k k)) c.in_ok-prefix.ensures)
 
 pub returns-clause-some : goal.returns-clause-some
 returns-clause-some g c =
     let m = seen c.args.run.now.run in
     subst (λ (k : List ℕ). IsSome (objects.get m k)) (sym c.in_ok-copy.ensures)
-    (first_there m (111 ∷ []) c.in_ok-pairs.pairs c.get.result.now (c.in_ok-pairs.ensures.found ∙ ap (λ (k : List ℕ). take 1 (pairs_from m k k)) c.in-Ok.ensures.ok.0) c.get.ensures)
+    (first_there m (111 ∷ []) c.in_ok-pairs.pairs c.get.result.now (c.in_ok-pairs.ensures.found ∙ ap (λ (k : List ℕ). take 1 (pairs_from m k k)) c.in_ok-prefix.ensures) c.get.ensures)

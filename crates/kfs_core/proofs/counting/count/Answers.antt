@@ -1,10 +1,23 @@
-use Rattle.std.proofs.Common.{◌+◌, ◌-◌, ◌^◌, List, ℕ, map, take, ◌∙◌, ap, arith}
+use Rattle.std.proofs.Common.{◌+◌, ◌-◌, ◌^◌, List, ℕ, length, map, take, ◌∙◌, ap, arith}
+use Rattle.kv_base.specs.declared.pairs.Pair.{Pair}
 use Rattle.kv_device.specs.Objects.{pairs_from, pair_of}
 use Rattle.kfs_objects.specs.Keys.{inode_front}
 use Rattle.kfs_tx.specs.Run.{seen}
 use Rattle.kfs_core.specs.Counted.{charge_in, chunks_in, weigh, weigh_chunks}
-use Rattle.kfs_core.proofs.Charged.{all_weighed}
+use Rattle.kfs_core.proofs.Charged.{all_weighed, few_taken}
 use Rattle.kfs_core.proofs.counting.count.Goals as goal
+
+pub overflow_add-charge : goal.overflow_add-charge
+overflow_add-charge g c =
+    let few = few_taken c.in_ok-pairs.pairs (pairs_from (seen c.args.run.now.run) c.in_ok-prefix.prefix c.in_ok-prefix.prefix) (2 ^ 32 - 1) c.in_ok-pairs.ensures.found in
+    let same = ap (λ (l : List Pair). length l) c.as_slice-pair-items.ensures in
+    omega arith
+
+pub overflow_add-chunks : goal.overflow_add-chunks
+overflow_add-chunks g c =
+    let few = few_taken c.in_ok-pairs.pairs (pairs_from (seen c.args.run.now.run) c.in_ok-prefix.prefix c.in_ok-prefix.prefix) (2 ^ 32 - 1) c.in_ok-pairs.ensures.found in
+    let same = ap (λ (l : List Pair). length l) c.as_slice-pair-items.ensures in
+    omega arith
 
 pub returns-clause-charge : goal.returns-clause-charge
 unfolding charge_in

@@ -1,4 +1,4 @@
-use Rattle.std.proofs.Common.{◌≡◌, ◌+◌, ◌≤◌, take, sum_by}
+use Rattle.std.proofs.Common.{◌≡◌, ◌+◌, ◌*◌, ◌≤◌, take, sum_by}
 use Rattle.kv_base.specs.declared.pairs.Pair.{Pair}
 use Rattle.kfs_objects.specs.Records.{read_inode}
 use Rattle.kfs_core.specs.Counted.{weigh, weigh_chunks}
@@ -10,4 +10,5 @@ invariant-loop-pair g l = record {
   charge : l.charge ≡ 1 + sum_by (λ (p : Pair). weigh (read_inode p.value)) (take l.pair-index l.pair-items);
   chunks : l.chunks ≡ sum_by (λ (p : Pair). weigh_chunks (read_inode p.value)) (take l.pair-index l.pair-items);
   fewer : l.chunks ≤ l.charge;
+  most : l.charge ≤ 1 + 258 * l.pair-index;
 }
