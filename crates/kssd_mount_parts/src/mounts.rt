@@ -9,6 +9,8 @@ ghost use Rattle.kssd_mount_parts.specs.Small.{IsTaken, IsSmall};
 use kssd_entry::{Entries, Entry, InlineValue, MAX_INLINE};
 use kssd_index::Index;
 use kssd_layout::{MAX_BLOCKS, MIN_BLOCKS};
+use kssd_levels::Levels;
+use kssd_merge::Ordered;
 use kssd_mount::mount;
 use kssd_recover::{format, recover};
 use kssd_table::{MAX_ENTRIES, Table};
@@ -191,29 +193,56 @@ fn shown(entry: &Entry) -> Shown {
     }
 }
 
-// The first visible entries.
+// All visible entries.
 fn listed<N: Nand>(alloc: Global, nand: &mut N, index: &Index) -> Option<Vec<Shown>>
     requires { IsIndex index.now (N.flash nand.old).blocks (N.flash nand.old).image }
     ensures { IfSome result (λ _. OnlyReads (N.flash nand.old) (N.flash nand.new)) }
 {
     let first = Key::new(alloc, &[0]).ok()?;
-    match index.page_from(alloc, nand, &first) {
-        Ok(entries) => list_of(alloc, entries.as_slice()),
+    match index.stream_from(alloc, nand, &first) {
+        Ok(stream) => rest_of(alloc, nand, stream),
         Err(_) => None,
     }
 }
 
-fn list_of(alloc: Global, entries: &[Entry]) -> Option<Vec<Shown>> {
+// The entries of a source that are no deletion marks.
+fn rest_of<N: Nand, S: Ordered + Drop>(alloc: Global, nand: &mut N, source: S) -> Option<Vec<Shown>>
+    requires { S.stands source (N.flash nand.old).blocks (N.flash nand.old).image }
+    ensures { IfSome result (λ _. OnlyReads (N.flash nand.old) (N.flash nand.new)) }
+{
+    let mut source = source;
     let mut list = Vec::new(alloc);
-    for entry in entries {
-        list.push(shown(entry)).ok()?;
+    'entries: loop {
+        match source.peek() {
+            None => return Some(list),
+            Some(entry) => add_shown(&mut list, entry)?,
+        }
+        match source.advance(alloc, nand) {
+            Ok(()) => {}
+            Err(_) => return None,
+        }
     }
-    Some(list)
 }
 
-// Of what is recovered: the keys, the entries of the log, whether it is clean, the runs of the base,
+// Adds an entry, unless it is a deletion mark.
+fn add_shown(list: &mut Vec<Shown>, entry: &Entry) -> Option<()> {
+    match entry {
+        Entry::Gone { .. } => Some(()),
+        _ => list.push(shown(entry)).ok(),
+    }
+}
+
+// Of what is recovered: the keys, the entries of the log, whether it is clean, the runs of each level,
 // and where the log goes on.
-type Counts = (u32, u32, bool, usize, u16, u64);
+type Counts = (u32, u32, bool, (usize, usize, usize), u16, u64);
+
+fn runs_of(levels: &Levels) -> (usize, usize, usize) {
+    (
+        levels.level(0).len(),
+        levels.level(1).len(),
+        levels.level(2).len(),
+    )
+}
 
 fn counted<N: Nand>(alloc: Global, nand: &mut N, steps: u32) -> Option<Counts>
     requires { IsTaken (N.flash nand.old) steps }
@@ -224,7 +253,7 @@ fn counted<N: Nand>(alloc: Global, nand: &mut N, steps: u32) -> Option<Counts>
             parts.keys,
             parts.log.len(),
             parts.clean,
-            parts.levels.level(2).len(),
+            runs_of(&parts.levels),
             parts.last_block,
             parts.next_seq,
         )),
@@ -283,7 +312,7 @@ fn what_is_written_is_mounted(rt: HostRuntime) -> Result<(), Fail> {
     let third: [Shown; 1] = [(b'b', Some(3))];
     let fourth: [Shown; 1] = [(b'c', None)];
     let last: [Shown; 1] = [(b'b', None)];
-    let steps: [Step; 9] = [
+    let steps: [Step; 13] = [
         Step::Add(&first),
         Step::Add(&second),
         Step::Mount,
@@ -293,21 +322,29 @@ fn what_is_written_is_mounted(rt: HostRuntime) -> Result<(), Fail> {
         Step::Mount,
         Step::Add(&last),
         Step::Mount,
+        Step::Add(&first),
+        Step::Mount,
+        Step::Add(&third),
+        Step::Mount,
     ];
     let a: Shown = (b'a', Some(1));
     let b: Shown = (b'b', Some(1));
     let c: Shown = (b'c', Some(2));
     let newer: Shown = (b'b', Some(3));
-    let wanted: [(&[Shown], Counts); 9] = [
-        (&[a, b], (2, 2, false, 0, 2, 2)),
-        (&[b, c], (2, 3, false, 0, 2, 3)),
-        (&[b, c], (2, 0, true, 1, 3, 3)),
-        (&[newer, c], (2, 1, false, 1, 3, 4)),
-        (&[newer], (1, 2, false, 1, 3, 5)),
-        (&[newer], (1, 0, true, 1, 4, 5)),
-        (&[newer], (1, 0, true, 1, 4, 5)),
-        (&[], (0, 1, false, 1, 4, 6)),
-        (&[], (0, 0, true, 0, 5, 6)),
+    let wanted: [(&[Shown], Counts); 13] = [
+        (&[a, b], (2, 2, false, (0, 0, 0), 2, 2)),
+        (&[b, c], (2, 3, false, (0, 0, 0), 2, 3)),
+        (&[b, c], (2, 0, true, (1, 0, 0), 3, 3)),
+        (&[newer, c], (2, 1, false, (1, 0, 0), 3, 4)),
+        (&[newer], (1, 2, false, (1, 0, 0), 3, 5)),
+        (&[newer], (1, 0, true, (2, 0, 0), 4, 5)),
+        (&[newer], (1, 0, true, (2, 0, 0), 4, 5)),
+        (&[], (0, 1, false, (2, 0, 0), 4, 6)),
+        (&[], (0, 0, true, (3, 0, 0), 5, 6)),
+        (&[a, b], (2, 2, false, (3, 0, 0), 5, 7)),
+        (&[a, b], (2, 0, true, (4, 0, 0), 6, 7)),
+        (&[a, newer], (2, 1, false, (4, 0, 0), 6, 8)),
+        (&[a, newer], (2, 0, true, (1, 1, 0), 7, 8)),
     ];
     let mut nand = MemNand::fresh(rt.alloc(), 256)?;
     let all = all_taken(rt.alloc(), &mut nand, &steps).ok_or("memory")?;
