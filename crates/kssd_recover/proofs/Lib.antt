@@ -1,3 +1,4 @@
+pub mod AnchorFit
 pub mod Fresh
 pub mod Tables
 pub mod LogIs

@@ -1,3 +1,4 @@
+pub mod Anchor
 pub mod Faults
 pub mod Formatting
 pub mod Log

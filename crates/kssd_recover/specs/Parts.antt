@@ -9,7 +9,7 @@ use Rattle.kssd_model.specs.declared.anchor.Anchor.{Anchor}
 use Rattle.kssd_model.specs.Anchors.{newest_in}
 use Rattle.kssd_image.specs.Stages.{log_map, shown_in, objects_in}
 use Rattle.kssd_image.specs.Whole.{log_of, pages_named, Sound}
-use Rattle.kssd_image.specs.Damages.{IsAt, IsBadRunOf}
+use Rattle.kssd_image.specs.Damages.{IsAt, IsAnchorFit, IsBadRunOf}
 use Rattle.kssd_levels.specs.Levels.{AreOpened}
 use Rattle.kssd_values.specs.declared.values.Values.{Values}
 use Rattle.kssd_values.specs.declared.mark.Mark.TheVariants.{Visible, Dead}
@@ -27,9 +27,10 @@ LacksAnchor image damage = (newest_in image ≡ None) × (damage ≡ NoAnchor)
 abbrev pub IsRunDamage : Image → Anchor → Damage → Type 0
 IsRunDamage image anchor = IsAt Run (IsBadRunOf image anchor.runs)
 
--- the newest anchor, its runs, and its log
+-- the newest anchor, its runs, and its log; a mount takes them
 pub record IsIndexRead (blocks : ℕ) (image : Image) (index : Index) : Type 0 where
   pub found : newest_in image ≡ Some index.found
+  pub fit : IsAnchorFit blocks index.found.anchor
   pub levels : AreOpened index.found.anchor.runs blocks image index.levels
   pub log : IsLogOf image index.found.anchor index.log
 

@@ -1,9 +1,8 @@
 // Reading what the newest anchor names.
 ghost use Rattle.std.specs.Prelude.{◌≡◌, ◌≤◌, ◌<◌, ◌-◌, ◌^◌, Some, length, IfOk, OnOk, IfErr};
 ghost use Rattle.kssd_image.specs.AnchorForm.{IsAnchorForm};
-ghost use Rattle.kssd_image.specs.Damages.{IsDamage};
+ghost use Rattle.kssd_image.specs.Damages.{IsAnchorFit, IsDamage};
 ghost use Rattle.kssd_image.specs.Stages.{without_marks};
-ghost use Rattle.kssd_image.specs.Whole.{Sound};
 ghost use Rattle.kssd_levels.specs.Levels.{AreOpened, StandLevels, levels_map};
 ghost use Rattle.kssd_model.specs.Anchors.{newest_in};
 ghost use Rattle.kssd_model.specs.OnlyReading.{OnlyReads, StopsReading};
@@ -12,6 +11,7 @@ ghost use Rattle.kssd_recover.specs.Faults.{FailsBy};
 ghost use Rattle.kssd_recover.specs.Parts.{LacksAnchor, IsRunDamage, IsIndexRead};
 ghost use Rattle.kssd_recover.specs.Walk.{IsCounted};
 
+use crate::anchor::is_fit;
 use crate::log::{LogContents, read_log};
 use crate::walking::{Visible, walk};
 use kssd_anchor::newest;
@@ -45,6 +45,21 @@ fn newest_anchor<N: Nand>(alloc: Global, nand: &mut N) -> Result<Found, MountFau
     }
 }
 
+// The newest anchor, whose own fields are those that a mount takes.
+fn fit_anchor<N: Nand>(alloc: Global, nand: &mut N, layout: &Layout) -> Result<Found, MountFault>
+    requires device { layout.now.blocks ≡ (N.flash nand.old).blocks }
+    ensures ok { IfOk result (λ found. newest_in (N.flash nand.old).image ≡ Some found) }
+    ensures fit { IfOk result (λ found. IsAnchorFit (N.flash nand.old).blocks found.anchor) }
+    ensures reads { OnOk result (OnlyReads (N.flash nand.old) (N.flash nand.new)) }
+    ensures err { IfErr result (λ fault. FailsBy (IsDamage (N.flash nand.old).blocks (N.flash nand.old).image) (N.flash nand.old) fault (N.flash nand.new)) }
+{
+    let found = newest_anchor(alloc, nand)?;
+    if !is_fit(alloc, layout, &found.anchor)? {
+        return Err(MountFault::Damaged(Damage::Anchor(found.page)));
+    }
+    Ok(found)
+}
+
 // Opens the runs of an anchor. They are damaged at the first page that a mount refuses.
 fn open_levels<N: Nand>(
     alloc: Global,
@@ -75,12 +90,11 @@ pub fn read_index<N: Nand>(
     layout: &Layout,
 ) -> Result<Index, MountFault>
     requires device { layout.now.blocks ≡ (N.flash nand.old).blocks }
-    requires sound { Sound (N.flash nand.old).blocks (N.flash nand.old).image }
     ensures ok { IfOk result (IsIndexRead (N.flash nand.old).blocks (N.flash nand.old).image) }
     ensures reads { OnOk result (OnlyReads (N.flash nand.old) (N.flash nand.new)) }
     ensures err { IfErr result (λ fault. FailsBy (IsDamage (N.flash nand.old).blocks (N.flash nand.old).image) (N.flash nand.old) fault (N.flash nand.new)) }
 {
-    let found = newest_anchor(alloc, nand)?;
+    let found = fit_anchor(alloc, nand, layout)?;
     let levels = open_levels(alloc, nand, layout, &found.anchor)?;
     let log = read_log(alloc, nand, &found.anchor)?;
     Ok(Index { found, levels, log })

@@ -1,6 +1,7 @@
 //! A device before it is used: made empty, or read for what it holds.
 #![tactic(auto)]
 
+mod anchor;
 mod formatting;
 mod index;
 mod log;

@@ -5,14 +5,13 @@ use Rattle.kssd_model.proofs.ReadingOn.{reads_image, reads_blocks, reads_then_re
 use Rattle.kssd_values.specs.Places.{IsValueBlock}
 use Rattle.kssd_recover.specs.Log.{IsErasedBlock}
 use Rattle.kssd_recover.specs.Parts.{HasVisible}
-use Rattle.kssd_recover.proofs.Judging.{fit}
 use Rattle.kssd_recover.proofs.PartsAre.{few_counted, now_counted, places_within, places_few, parts_are, with_pages}
 use Rattle.kssd_recover.proofs.recovering.recover.Goals as goal
 
 pub is_erased_block-requires : goal.is_erased_block-requires
 is_erased_block-requires g c =
     let flash = g.N.Nand.flash in
-    let form = (fit (flash c.args.nand.now).blocks (flash c.args.nand.now).image c.in_ok-found.field-0.found c.in_ok-found.ensures.ok.found c.requires.sound).form in
+    let form = c.in_ok-found.ensures.ok.fit.form in
     omega (arith, form.log_high, reads_blocks _ _ c.in_ok-found.ensures.reads, c.requires.blocks)
 
 pub visible_in-requires-clause-few : goal.visible_in-requires-clause-few
