@@ -1,18 +1,17 @@
 -- The tests of an anchor say what a mount demands of it.
-use Rattle.std.proofs.Common.{◌≡◌, ◌∙◌, ◌↔◌, ℕ, zero, suc, ◌+◌, ◌/◌, ◌<◌, ◌≤◌, ◌^◌, Bool, true, false, not, ◌&&◌, ◌||◌, cond, eqb, ltb, List, [], ◌∷◌, length, max, refl, sym, ap, subst, arith, inl, inr}
+use Rattle.std.proofs.Common.{◌≡◌, ◌∙◌, ◌↔◌, ℕ, suc, ◌<◌, ◌≤◌, ◌^◌, Bool, true, false, not, ◌&&◌, cond, eqb, List, [], ◌∷◌, refl, sym, ap, arith}
 use Rattle.std.specs.Prelude.{nat_eq, nat_le, nat_lt, IsTrue}
 use Rattle.std.specs.List.{All, AllPairs, AllByRecursion, IsDistinct, list_all, list_any}
-use Rattle.std.proofs.lemmas.Bool.{and_parts, and_from, or_parts, or_from, not-true, true≢false, leb-true, le-leb, ltb-true, lt-ltb, eqb-true, eq-eqb}
+use Rattle.std.proofs.lemmas.Bool.{and_parts, and_from, or_parts, or_from, not-true, leb-true, le-leb, ltb-true, lt-ltb, eqb-true, eq-eqb}
 use Rattle.std.proofs.lemmas.Bool.Decides.{nat_tests}
 use Rattle.std.proofs.lemmas.List.Elements.{All-nil, All-cons, All-head, All-tail}
 use Rattle.std.proofs.lemmas.List.Kept.{AllPairs-cons}
-use Rattle.kssd_layout.specs.declared.region.Region.{Region}
 use Rattle.kssd_layout.specs.declared.region.Region.TheVariants.{Anchor, Log, Run, Value}
 use Rattle.kssd_layout.specs.Numbers.{region_in, first_value_block_in}
 use Rattle.kssd_model.specs.declared.runs.RunInfo.{RunInfo}
 use Rattle.kssd_model.specs.declared.anchor.Anchor as model
 use Rattle.kssd_levels.proofs.Free.{in_region}
-use Rattle.kssd_image.specs.AnchorForm.{IsRunForm, AreOnLevels, count_on, run_numbers, blocks_of, IsAnchorForm, greatest, HasLowNumbers}
+use Rattle.kssd_image.specs.AnchorForm.{IsRunForm, AreOnLevels, count_on, run_numbers, blocks_of, greatest, HasLowNumbers}
 use Rattle.kssd_image.specs.Damages.{IsAnchorFit}
 use Rattle.kssd_recover.specs.Anchor.{are_distinct, is_run_block, has_form, leads, are_in_order, are_on_levels, are_runs_fit, has_low_numbers, has_place, is_fit}
 

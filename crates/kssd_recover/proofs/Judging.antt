@@ -1,5 +1,5 @@
 -- A mount that stops tells the first damage of the image.
-use Rattle.std.proofs.Common.{◌≡◌, ℕ, ◌<◌, ◌^◌, Option, Some, refl, sym, subst, arith, inl, inr}
+use Rattle.std.proofs.Common.{◌≡◌, ℕ, ◌<◌, ◌^◌, Option, false, Some, None, refl, sym, subst, arith, inl, inr}
 use Rattle.std.specs.List.{All}
 use Rattle.kv_base.specs.declared.damage.Damage.{Damage}
 use Rattle.kv_base.specs.declared.damage.Damage.TheVariants as damages
@@ -14,12 +14,20 @@ use Rattle.kssd_model.specs.declared.anchor.Found.{Found}
 use Rattle.kssd_model.specs.Anchors.{newest_in}
 use Rattle.kssd_model.specs.OnlyReading.{OnlyReads, StopsReading}
 use Rattle.kssd_model.specs.RunPages.{IsGoodRun}
-use Rattle.kssd_model.proofs.ReadingOn.{reads_then_reads, reads_then_stops, reads_image}
+use Rattle.kssd_model.proofs.ReadingOn.{reads_then_reads, reads_then_stops, reads_image, reads_blocks}
 use Rattle.kssd_image.specs.AnchorForm.{HasLowNumbers}
-use Rattle.kssd_image.specs.Damages.{IsAnchorFit, IsDamageBy, IsDamage}
+use Rattle.kssd_image.specs.Stages.{shown_by}
+use Rattle.kssd_image.specs.Whole.{Sound}
+use Rattle.kssd_image.specs.Damages.{IsFirst, IsAnchorFit, lacks_value, is_passed, IsDamageBy, IsDamage}
+use Rattle.kssd_image.proofs.OneDamage.{sound_from_clear}
 use Rattle.kssd_recover.specs.Faults.{FailsBy}
 use Rattle.kssd_recover.specs.Log.{IsLogDamage}
-use Rattle.kssd_recover.specs.Parts.{LacksAnchor, IsRunDamage}
+use Rattle.kssd_recover.specs.declared.index.Index.{Index}
+use Rattle.kssd_recover.specs.declared.walking.Visible.{Visible}
+use Rattle.kssd_recover.specs.declared.limits.Counts.{Counts}
+use Rattle.kssd_recover.specs.Walk.{IsLeastOf}
+use Rattle.kssd_recover.specs.Limits.{AreVisible, AreCounts}
+use Rattle.kssd_recover.specs.Parts.{LacksAnchor, IsRunDamage, IsIndexRead}
 
 -- ---- one step after another
 
@@ -71,3 +79,35 @@ log_fails blocks old mid late new fault found first then newest fit good h =
     let here = subst (λ (image : Image). FailsBy (IsLogDamage image found.anchor) late fault new) (reads_image old late reads) h in
     let runs = subst (λ (image : Image). All (IsGoodRun image) found.anchor.runs) (reads_image old mid first) good in
     reads_then_fails (IsDamage blocks old.image) old late new fault reads (fails_as (IsLogDamage old.image found.anchor) (IsDamage blocks old.image) late new fault (λ d p. found_damage blocks old.image found d newest (inr (fit, inr (runs, inl p)))) here)
+
+pub value_damage : (blocks : ℕ) (image : Image) (index : Index) (page : ℕ) → IsIndexRead blocks image index → IsFirst (lacks_value blocks image (shown_by image index.found.anchor)) page → IsDamage blocks image (damages.Value page)
+value_damage blocks image index page read first =
+    found_damage blocks image index.found (damages.Value page) read.found (inr (read.fit, inr (read.levels.good, inr (read.log.whole, inl (record { place = page; is = refl; why = first })))))
+
+pub limit_damage : (blocks : ℕ) (image : Image) (index : Index) (visible : Visible) (limit : ℕ) → IsIndexRead blocks image index → AreVisible blocks image index.found.anchor visible → IsFirst (is_passed blocks image index.found.anchor) limit → IsDamage blocks image (damages.Space limit)
+limit_damage blocks image index visible limit read seen first =
+    found_damage blocks image index.found (damages.Space limit) read.found (inr (read.fit, inr (read.levels.good, inr (read.log.whole, inr (seen.values, record { place = limit; is = refl; why = first })))))
+
+-- what is clear of each is sound
+pub judged_sound : (blocks : ℕ) (image : Image) (index : Index) (visible : Visible) → IsIndexRead blocks image index → AreVisible blocks image index.found.anchor visible → ((limit : ℕ) → is_passed blocks image index.found.anchor limit ≡ false) → Sound blocks image
+judged_sound blocks image index visible read seen limits =
+    sound_from_clear blocks image index.found (record { newest = read.found; anchor = read.fit; runs = read.levels.good; log = read.log.whole; values = seen.values; limits = limits })
+
+-- ---- what only reads changes nothing of what was read
+
+pub still : (P : ℕ → Image → Type 0) (old new : Flash) → OnlyReads old new → P old.blocks old.image → P new.blocks new.image
+still P old new reads h = subst (P new.blocks) (sym (reads_image old new reads)) (subst (λ (n : ℕ). P n old.image) (sym (reads_blocks old new reads)) h)
+
+pub before : (P : ℕ → Image → Type 0) (old new : Flash) → OnlyReads old new → P new.blocks new.image → P old.blocks old.image
+before P old new reads h = subst (P old.blocks) (reads_image old new reads) (subst (λ (n : ℕ). P n new.image) (reads_blocks old new reads) h)
+
+-- a later call fails by a damage of the image as it was
+pub later_fails : (old mid new : Flash) (fault : MountFault) → OnlyReads old mid → FailsBy (IsDamage mid.blocks mid.image) mid fault new → FailsBy (IsDamage old.blocks old.image) old fault new
+later_fails old mid new fault reads h =
+    reads_then_fails (IsDamage old.blocks old.image) old mid new fault reads (before (λ blocks image. FailsBy (IsDamage blocks image) mid fault new) old mid reads h)
+
+-- where no limit was found passed, none is
+pub limits_none : (device blocks : ℕ) (image : Image) (anchor : Anchor) (counts : Counts) (first : Option ℕ) → device ≡ blocks → ((im : Image) (a : Anchor) → AreCounts device im a counts → IsLeastOf (is_passed device im a) first) → AreCounts blocks image anchor counts → first ≡ None → (limit : ℕ) → is_passed blocks image anchor limit ≡ false
+limits_none device blocks image anchor counts first same told are none =
+    let here = subst (λ (n : ℕ). (im : Image) (a : Anchor) → AreCounts n im a counts → IsLeastOf (is_passed n im a) first) same told in
+    subst (λ (o : Option ℕ). IsLeastOf (is_passed blocks image anchor) o) none (here image anchor are)

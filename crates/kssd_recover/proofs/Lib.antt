@@ -2,6 +2,7 @@ pub mod AnchorFit
 pub mod Fresh
 pub mod Tables
 pub mod LogIs
+pub mod FirstPassed
 pub mod Walked
 pub mod Judging
 pub mod Streaming

@@ -4,8 +4,10 @@
 mod anchor;
 mod formatting;
 mod index;
+mod limits;
 mod log;
 mod recovering;
+mod value;
 mod walking;
 
 pub use formatting::format;

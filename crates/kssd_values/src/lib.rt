@@ -8,6 +8,6 @@ mod pages;
 mod values;
 
 pub use mark::Mark;
-pub use page::ValueName;
+pub use page::{ValueName, is_page_of};
 pub use pages::PageList;
 pub use values::Values;

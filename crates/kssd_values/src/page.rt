@@ -2,7 +2,7 @@
 ghost use Rattle.std.specs.Prelude.{◌≡◌, ◌≤◌, ◌<◌, ◌++◌, ◌∷◌, [], length, slice_index, take, drop, true, IfOk, OnOk, ◌+◌};
 ghost use Rattle.kv_nand.specs.Flash.{Whole};
 ghost use Rattle.kssd_entry.specs.Spelling.{spare_bytes};
-ghost use Rattle.kssd_image.specs.ValuePages.{value_head, value_page};
+ghost use Rattle.kssd_image.specs.ValuePages.{value_head, value_page, is_value_page};
 ghost use Rattle.kssd_values.specs.Pages.{key_in, size_in, is_value};
 
 use kssd_entry::PageLength;
@@ -17,6 +17,9 @@ const LENGTH_PLACE: usize = DATA_BYTES + 10;
 
 /// Where the length of the key stands behind the data.
 const KEY_PLACE: usize = DATA_BYTES + 16;
+
+/// The most bytes of a key whose value may have a page.
+const MAX_PAGE_KEY: usize = 32;
 
 /// The key and the length that the page of a value names.
 #[derive(Debug, Drop)]
@@ -84,4 +87,22 @@ pub fn value_in(alloc: Global, page: &PageData, length: u16) -> Result<Value, Me
         Err(SizeFault::Memory) => Err(Memory),
         Err(SizeFault::BadLength) => unreachable!(),
     }
+}
+
+/// Whether a page is that of a value of this length under this key.
+#[tactic(auto, unfolding(kssd_image::specs::ValuePages::is_value_page))]
+pub fn is_page_of(
+    alloc: Global,
+    key: &Key,
+    length: PageLength,
+    page: &PageData,
+) -> Result<bool, Memory>
+    ensures { IfOk result (λ is. is ≡ is_value_page key.now length page.now) }
+{
+    if key.bytes().len() > MAX_PAGE_KEY {
+        return Ok(false);
+    }
+    let value = value_in(alloc, page, length.bytes())?;
+    let expected = page_of(alloc, key, &value)?;
+    Ok(expected.bytes() == page.bytes())
 }

@@ -5,7 +5,7 @@ use Rattle.kssd_recover.proofs.walking.walk.Given as goal
 
 abbrev pub invariant-entries : goal.invariant-entries
 invariant-entries g l = record {
-  walked : IsWalked (g.S.Ordered.rest l.fn.source (g.N.Nand.flash l.fn.nand).image) (g.S.Ordered.rest l.source (g.N.Nand.flash l.fn.nand).image) l.visible;
+  walked : IsWalked (g.N.Nand.flash l.fn.nand).blocks (g.N.Nand.flash l.fn.nand).image (g.S.Ordered.rest l.fn.source (g.N.Nand.flash l.fn.nand).image) (g.S.Ordered.rest l.source (g.N.Nand.flash l.fn.nand).image) l.visible;
   stands : g.S.Ordered.stands l.source (g.N.Nand.flash l.fn.nand).blocks (g.N.Nand.flash l.fn.nand).image;
   reads : OnlyReads (g.N.Nand.flash l.fn.nand) (g.N.Nand.flash l.nand);
 }
