@@ -171,7 +171,7 @@ log_whole image page number never = whole_behind (2 ^ 64) image page number [] p
 
 -- ---- values
 
-pub none_lacks : (blocks : ℕ) (image : Image) (es : List Entry) → ((page : ℕ) → lacks_value blocks image es page ≡ false) → list_all (has_its_value blocks image) es ≡ true
+none_lacks : (blocks : ℕ) (image : Image) (es : List Entry) → ((page : ℕ) → lacks_value blocks image es page ≡ false) → list_all (has_its_value blocks image) es ≡ true
 none_lacks blocks image [] none = refl
 none_lacks blocks image (e ∷ es) none =
     and_from _ _ (by e (λ page. (or_parts _ _ (none page)).0)) (none_lacks blocks image es (λ page. (or_parts (list_any (λ named. eqb named page) (page_named e) && not (has_its_value blocks image e)) (lacks_value blocks image es page) (none page)).1))

@@ -19,7 +19,7 @@ use Rattle.kssd_image.specs.AnchorForm.{HasLowNumbers}
 use Rattle.kssd_image.specs.Stages.{shown_by}
 use Rattle.kssd_image.specs.Whole.{Sound}
 use Rattle.kssd_image.specs.Damages.{IsFirst, IsAnchorFit, lacks_value, is_passed, IsDamageBy, IsDamage}
-use Rattle.kssd_image.proofs.OneDamage.{sound_from_clear}
+use Rattle.kssd_image.proofs.OneDamage.{clear_from_sound, sound_from_clear}
 use Rattle.kssd_recover.specs.Faults.{FailsBy}
 use Rattle.kssd_recover.specs.Log.{IsLogDamage}
 use Rattle.kssd_recover.specs.declared.index.Index.{Index}
@@ -50,6 +50,10 @@ stopped P old new flash.Failed h = h
 stopped P old new flash.Memory h = h
 
 -- ---- the anchor
+
+-- the newest anchor of a sound image is fit
+pub fit : (blocks : ℕ) (image : Image) (found : Found) → newest_in image ≡ Some found → Sound blocks image → IsAnchorFit blocks found.anchor
+fit blocks image found newest sound = (clear_from_sound blocks image found newest sound).anchor
 
 -- the number of its log's first page is low
 pub low_log : (anchor : Anchor) → HasLowNumbers anchor → anchor.log_seq < 2 ^ 63

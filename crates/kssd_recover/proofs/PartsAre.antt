@@ -2,7 +2,7 @@
 use Rattle.std.proofs.Common.{◌≡◌, ◌∙◌, ℕ, ◌/◌, ◌≤◌, ◌↔◌, Bool, true, false, not, ◌&&◌, ◌||◌, Option, Some, None, refl, List, [], ◌∷◌, length, sym, ap, subst, arith, inl, inr}
 use Rattle.std.specs.Prelude.{IsTrue, ◌==◌}
 use Rattle.std.specs.List.{list_any, list_all}
-use Rattle.std.proofs.lemmas.Bool.{and_parts, or_cases, leb-true, ltb-true}
+use Rattle.std.proofs.lemmas.Bool.{and_parts, and_from, or_parts, or_cases, leb-true, ltb-true, eq-eqb}
 use Rattle.std.proofs.lemmas.Bool.Decides.{nat_tests}
 use Rattle.kv_nand.specs.Flash.{Image}
 use Rattle.kssd_entry.specs.declared.entry.Entry.{Entry}
@@ -12,9 +12,8 @@ use Rattle.kssd_model.specs.declared.anchor.Found.{Found}
 use Rattle.kssd_model.specs.Anchors.{newest_in}
 use Rattle.kssd_model.specs.Rising.{merged}
 use Rattle.kssd_image.specs.Stages.{anchor_of, the_anchor, runs_map, without_marks, merged_by, shown_by, shown_in}
-use Rattle.kssd_image.specs.Whole.{pages_named, has_its_value, is_value_block, Sound}
+use Rattle.kssd_image.specs.Whole.{page_named, pages_named, has_its_value, is_value_block, Sound}
 use Rattle.kssd_image.specs.Damages.{lacks_value}
-use Rattle.kssd_image.proofs.Undamaged.{none_lacks}
 use Rattle.kssd_frames.proofs.ShownLaws.{objects_len}
 use Rattle.kssd_layout.specs.declared.layout.Layout.{Layout}
 use Rattle.kssd_levels.specs.Levels.{levels_map}
@@ -53,6 +52,23 @@ bad_is blocks image index bad read least =
     let all = merged index.log.entries (levels_map index.levels image) in
     subst (λ (xs : List Entry). IsLeastOf (lacks_value blocks image xs) bad) (shown_is blocks image index read) (same_least (lacks_value blocks image all) (lacks_value blocks image (without_marks all)) bad (lacks_shown blocks image all) least)
 
+-- where no page is bad, each entry names the page of its value
+all_have : (blocks : ℕ) (image : Image) (entries : List Entry) → ((page : ℕ) → lacks_value blocks image entries page ≡ false) → list_all (has_its_value blocks image) entries ≡ true
+all_have blocks image [] none = refl
+all_have blocks image (e ∷ es) none =
+    and_from _ _ (by e (λ page. (or_parts (list_any (λ named. named == page) (page_named e) && not (has_its_value blocks image e)) (lacks_value blocks image es page) (none page)).0))
+    (all_have blocks image es (λ page. (or_parts (list_any (λ named. named == page) (page_named e) && not (has_its_value blocks image e)) (lacks_value blocks image es page) (none page)).1))
+  where
+    has : (named whole : Bool) → named ≡ true → (named && not whole) ≡ false → whole ≡ true
+    has true true e h = refl
+    has true false e h = absurd cc
+    has false whole e h = absurd cc
+
+    by : (e : Entry) → ((page : ℕ) → (list_any (λ named. named == page) (page_named e) && not (has_its_value blocks image e)) ≡ false) → has_its_value blocks image e ≡ true
+    by (Put key value) none = refl
+    by (Gone key) none = refl
+    by (At key page size) none = has ((page == page) || false) (has_its_value blocks image (At key page size)) (ap (λ b. b || false) (eq-eqb page page refl)) (none page)
+
 -- what was seen of the index, where no page is bad, is what is visible
 pub visible_are : (blocks : ℕ) (image : Image) (index : Index) (visible : Visible) → IsIndexRead blocks image index → IsSeen blocks image (merged index.log.entries (levels_map index.levels image)) visible → visible.bad ≡ None → AreVisible blocks image index.found.anchor visible
 visible_are blocks image index visible read seen none =
@@ -61,7 +77,7 @@ visible_are blocks image index visible read seen none =
     record {
       places = seen.places ∙ ap pages_named shown;
       keys = seen.keys ∙ ap (λ (xs : List Entry). within_four_bytes (length xs)) shown;
-      values = none_lacks blocks image (shown_by image index.found.anchor) (subst (λ (o : Option ℕ). IsLeastOf (lacks_value blocks image (shown_by image index.found.anchor)) o) none least);
+      values = all_have blocks image (shown_by image index.found.anchor) (subst (λ (o : Option ℕ). IsLeastOf (lacks_value blocks image (shown_by image index.found.anchor)) o) none least);
     }
 
 -- ---- the pages that they name
