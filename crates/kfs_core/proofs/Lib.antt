@@ -7,6 +7,7 @@ pub mod Charged
 pub mod FormatLaws
 pub mod Ages
 pub mod Dropped
+pub mod Fewer
 pub mod Fresh
 pub mod Cleared
 pub mod Orphans

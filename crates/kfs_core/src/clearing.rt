@@ -1,5 +1,5 @@
 // The nodes without a name, removed at a mount.
-ghost use Rattle.std.specs.Prelude.{◌≡◌, ◌<◌, ◌≤◌, ◌-◌, ◌^◌, false, IsSome, IfSome, IfNone, OnOk, IfOk, IfErr};
+ghost use Rattle.std.specs.Prelude.{◌≡◌, ◌<◌, ◌≤◌, ◌-◌, ◌^◌, true, false, IsSome, IfSome, IfNone, OnOk, IfOk, IfErr};
 ghost use Rattle.std.specs.FinMap as objects;
 ghost use Rattle.kfs_tx.specs.Run.{age_of, Aged, seen, GetFault};
 ghost use Rattle.kfs_core.specs.Clearing.{Clears, ClearFails, IsFresh, NoOrphans};
@@ -35,6 +35,7 @@ fn clear_one<D: Device>(alloc: Global, run: &mut Running<D>, key: &Key) -> Resul
     requires fresh { IsFresh run.old.run }
     requires there { IsSome (objects.get (seen run.old.run) key.now) }
     ensures clears { OnOk result (Clears run.old.run run.new.run) }
+    ensures fewer { OnOk result (objects.len (seen run.new.run) < objects.len (seen run.old.run)) }
     ensures err { IfErr result (λ fault. ClearFails run.old.run fault run.new.run.machine) }
     ensures age { Aged run.old run.new (2 ^ 16) }
 {
@@ -59,6 +60,7 @@ fn clear_next<D: Device>(alloc: Global, run: &mut Running<D>) -> Result<bool, De
     requires fresh { IsFresh run.old.run }
     ensures clears { OnOk result (Clears run.old.run run.new.run) }
     ensures none { IfOk result (λ more. more ≡ false → NoOrphans (seen run.new.run)) }
+    ensures fewer { IfOk result (λ more. more ≡ true → objects.len (seen run.new.run) < objects.len (seen run.old.run)) }
     ensures err { IfErr result (λ fault. ClearFails run.old.run fault run.new.run.machine) }
     ensures age { Aged run.old run.new (2 ^ 16) }
 {
@@ -71,13 +73,14 @@ fn clear_next<D: Device>(alloc: Global, run: &mut Running<D>) -> Result<bool, De
     }
 }
 
-/// More nodes than any device has room for.
+/// More nodes than a device of at most 68,544 objects has.
 const MOST_NODES: u32 = 1 << 20;
 
 /// Removes all nodes without a name.
 pub fn clear<D: Device>(alloc: Global, run: &mut Running<D>) -> Result<(), DeviceFault>
     requires age { age_of run.old < 2 ^ 63 - 2 ^ 39 - 2 ^ 38 }
     requires fresh { IsFresh run.old.run }
+    requires few { objects.len (seen run.old.run) ≤ 68544 }
     ensures clears { OnOk result (Clears run.old.run run.new.run) }
     ensures none { OnOk result (NoOrphans (seen run.new.run)) }
     ensures err { IfErr result (λ fault. ClearFails run.old.run fault run.new.run.machine) }
@@ -88,5 +91,5 @@ pub fn clear<D: Device>(alloc: Global, run: &mut Running<D>) -> Result<(), Devic
             return Ok(());
         }
     }
-    Err(DeviceFault::Memory)
+    unreachable!()
 }

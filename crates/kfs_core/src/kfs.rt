@@ -1,5 +1,6 @@
 // The tree's calls, over a running transaction that shows the tree.
 ghost use Rattle.std.specs.Prelude.{◌≡◌, ◌≤◌, ◌<◌, ◌+◌, ◌-◌, ◌^◌, true, All, OnOk, IfOk, IfErr};
+ghost use Rattle.std.specs.FinMap as objects;
 ghost use Rattle.kv_base.specs.Counts.{one_more};
 ghost use Rattle.kv_device.specs.Machine.{none_open, with_most_cuts, with_most_faults};
 ghost use Rattle.kv_device.specs.Calls.{Ages};
@@ -56,6 +57,7 @@ impl<D: Device> Model for Kfs<D> {
 fn left_over<D: Device>(alloc: Global, run: &mut Running<D>) -> Result<Taken, DeviceFault>
     requires age { age_of run.old < 2 ^ 63 - 2 ^ 39 - 2 ^ 38 }
     requires fresh { IsFresh run.old.run }
+    requires few { objects.len (seen run.old.run) ≤ 68544 }
     ensures clears { OnOk result (Clears run.old.run run.new.run) }
     ensures none { OnOk result (NoOrphans (seen run.new.run)) }
     ensures charge { IfOk result (λ n. n.charge ≡ charge_in (seen run.new.run)) }
@@ -73,6 +75,7 @@ fn start<D: Device>(alloc: Global, device: D, head: Super) -> Result<Kfs<D>, (D,
     requires age { D.age device < 2 ^ 63 - 2 ^ 40 }
     requires up { (D.machine device).up ≡ true }
     requires idle { (D.machine device).pending ≡ none_open }
+    requires room { (D.machine device).room_keys ≤ 68544 }
     requires changes { head.changes < 2 ^ 62 }
     requires next { head.next < 2 ^ 62 }
     ensures ok { IfOk result (λ kfs. Starts (D.machine device) head kfs) }

@@ -111,11 +111,11 @@ in_right [] ys q h = h
 in_right (x ∷ xs) ys q h = inr (in_right xs ys q h)
 
 -- pairs whose keys are all in a list are at most as many
-few_kept : {X : Type 0} (p : List ℕ × X → Bool) (m : objects.FinMap bytes_cmp X) (ys : List (List ℕ)) → ((q : List ℕ) (v : X) → objects.get m q ≡ Some v → p (q, v) ≡ true → In ys q) → length (kept p (objects.entries m)) ≤ length ys
+pub few_kept : {X : Type 0} (p : List ℕ × X → Bool) (m : objects.FinMap bytes_cmp X) (ys : List (List ℕ)) → ((q : List ℕ) (v : X) → objects.get m q ≡ Some v → p (q, v) ≡ true → In ys q) → length (kept p (objects.entries m)) ≤ length ys
 few_kept p m ys h = length-le_from_is_member (eq_by_cmp_equiv nat_list_cmp_total) (kept p (objects.entries m)) ys (distinct p (objects.entries m) (objects.entries_sorted m))
     (λ q e. let f = kept_found p (objects.entries m) q (objects.entries_sorted m) e in any_in ys q (h q f.0 (objects.get-entries m q ∙ f.1) f.2))
 
-kept_all : {X : Type 0} (es : List (List ℕ × X)) → length (kept (λ e. true) es) ≡ length es
+pub kept_all : {X : Type 0} (es : List (List ℕ × X)) → length (kept (λ e. true) es) ≡ length es
 kept_all [] = refl
 kept_all (e ∷ es) = ap (λ n. suc n) (kept_all es)
 

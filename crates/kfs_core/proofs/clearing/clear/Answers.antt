@@ -17,6 +17,7 @@ loop-turn-preserved g c =
     let then = c.in_ok-clear_next.ensures.age in
     record {
       clears = clears_both c.args.run.now.run c.loop-turn.run.run c.clear_next.new.run.run c.loop-turn.invariant.clears c.in_ok-clear_next.ensures.clears;
+      few = omega (arith, c.loop-turn.invariant.few, c.in_ok-clear_next.ensures.fewer c.if-not-branch.false);
       age = record {
         device = record { later = omega (arith, first.device.later, then.device.later); bounded = omega (arith, first.device.bounded, then.device.bounded) };
         whole = record { later = omega (arith, first.whole.later, then.whole.later); bounded = omega (arith, first.whole.bounded, then.whole.bounded) };

@@ -7,6 +7,8 @@ use Rattle.kfs_core.specs.Flat.{inode_in}
 use Rattle.kfs_core.specs.Removing.{Goes, chunks_for}
 use Rattle.kfs_file.specs.Contents.{Fails}
 use Rattle.kfs_core.proofs.Cleared.{orphan_spelled, one_cleared, commit_clears, fails_clear}
+use Rattle.kfs_core.proofs.Fewer.{goes_fewer}
+use Rattle.kfs_core.proofs.Fresh.{fresh_ready}
 use Rattle.kfs_core.proofs.clearing.clear_one.Goals as goal
 
 pub returns-in_err-drop_node-clause-err : goal.returns-in_err-drop_node-clause-err
@@ -27,6 +29,13 @@ returns-in_err-commit-clause-err g c =
     let goes = subst (λ (r : Run). Goes r c.in-Some-Orphan.node c.in-Some.it.length c.drop_node.new.run.run) c.in_ok-it.ensures.same c.in_ok-drop_node.ensures.goes in
     rw (p.1, p.2) (commit_clears c.args.run.now.run c.drop_node.new.run.run c.args.key.now c.in-Some-Orphan.node c.in-Some.it.kind c.in-Some.it.length c.requires.fresh c.requires.there k.0 k.1 inode (omega arith) goes fault new
     (subst (λ (r : Run). CommitFault r fault new) c.in_ok-delete.ensures.ok c.in_err-commit.ensures.err))
+
+pub returns-clause-fewer : goal.returns-clause-fewer
+returns-clause-fewer g c =
+    let k = orphan_spelled c.args.key.now c.in-Some-Orphan.field-0 c.in-Some-Orphan.node c.in-Some-Orphan.ensures.some c.in-Some-Orphan.field-0-is in
+    let goes = subst (λ (r : Run). Goes r c.in-Some-Orphan.node c.in-Some.it.length c.drop_node.new.run.run) c.in_ok-it.ensures.same c.in_ok-drop_node.ensures.goes in
+    goes_fewer c.args.run.now.run c.drop_node.new.run.run c.in-Some-Orphan.node c.in-Some.it.length goes (fresh_ready c.args.run.now.run c.requires.fresh) k.1 (omega arith) c.args.key.now k.0 c.requires.there c.commit.new.self.run
+    (c.in_ok-commit.ensures.ok ∙ ap committed c.in_ok-delete.ensures.ok)
 
 pub returns-clause-clears : goal.returns-clause-clears
 returns-clause-clears g c =

@@ -1,9 +1,21 @@
-use Rattle.std.proofs.Common.{◌∙◌, ap, subst}
-use Rattle.kfs_tx.specs.Run.{Run}
+use Rattle.std.proofs.Common.{◌∙◌, arith, ap, subst}
+use Rattle.std.specs.FinMap as objects
+use Rattle.kv_device.specs.Objects.{Objects}
+use Rattle.kfs_tx.specs.Run.{Run, seen}
+use Rattle.kfs_tx.proofs.Opening.{sees_stable}
 use Rattle.kfs_core.specs.Clearing.{Clears}
 use Rattle.kfs_core.specs.Counted.{charge_in, chunks_in}
 use Rattle.kfs_core.proofs.Cleared.{sees_now, now_cleared}
 use Rattle.kfs_core.proofs.kfs.start.Goals as goal
+
+pub left_over-requires-clause-few : goal.left_over-requires-clause-few
+left_over-requires-clause-few g c =
+    let m = g.D.Device.machine c.args.device in
+    let sound = g.met.D.Device.sound c.args.device in
+    let now = ap seen c.in-Ok.ensures.ok ∙ sees_stable m c.requires.up c.requires.idle in
+    let same = ap (λ (o : Objects). objects.len o) now in
+    let stored = sound.keys in
+    omega arith
 
 pub returns-else-taken-pages-clause-ok : goal.returns-else-taken-pages-clause-ok
 returns-else-taken-pages-clause-ok g c =
