@@ -108,7 +108,7 @@ def main():
         with open(script, "w") as text:
             text.write("@format 2048\n")
             text.writelines(SPELLED[word](*more) + "\n" for word, *more in lines)
-        seconds, memory = run(program, ["run", "image"], script)
+        seconds, memory = run(program, ["run", folder + "/image"], script)
         if any(line.startswith(("err", "down", "off")) for line in open(script + ".out")):
             sys.exit(f"{job.__name__}: a call was not done")
         os.mkdir(folder + "/tree")

@@ -126,7 +126,7 @@ def main():
 
     def run(lines, n):
         done = subprocess.run(
-            [program, "run", "image"],
+            [program, "run", folder + "/image"],
             input="".join(line + "\n" for line in lines),
             capture_output=True,
             text=True,
@@ -143,7 +143,7 @@ def main():
         _, text, count = run(lines, 0)
         want = by_line(lines, text.splitlines())
         kept = kept_by(lines, want, run)
-        for n in range(1, count + 1, 1 + count // 1500):
+        for n in range(1, count + 1, 1 + count // 150):
             status, text, _ = run(lines, n)
             fault = fault_of(lines, want, kept, status, text)
             runs += 1
