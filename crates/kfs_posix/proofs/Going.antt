@@ -244,7 +244,8 @@ fall_goes old new call fault up down same fell = up_goes old new call (replies.D
     by s showing live sh to (Full k p) down can cause bounds shows = absurd cause
     by s showing live sh to BadSize down can cause bounds shows = absurd cause
     by s showing live sh to Off down can cause bounds shows =
-        let r = rose old.run.machine.cuts new.run.machine.cuts old.run.machine.most_cuts s.cut_armed showing.cuts showing.most_cuts showing.few_cuts cause.0 in
+        let armed : old.run.machine.most_cuts ≤ old.run.machine.cuts + one_if s.cut_armed = let h = showing.cuts in omega arith in
+        let r = rose old.run.machine.cuts new.run.machine.cuts old.run.machine.most_cuts s.cut_armed armed showing.most_cuts showing.few_cuts cause.0 in
         let c : new.run.machine.cuts ≤ old.run.machine.most_cuts = cause.0.0 in (
           disarmed s Cut to,
           (Cut, refl, both_true s.cut_armed (can_fail live.world call Cut) r.0 (can Cut refl), refl),

@@ -65,9 +65,10 @@ ShowsNow b (Down past may) = ShowsDown b past may
 abbrev pub one_if : Bool → ℕ
 one_if armed = if armed then 1 else 0
 
+-- a cut is planned exactly where the life has one armed, and a fault at most there
 pub record ShowsState (b : Book) (s : State) : Type 0 where
   pub now : ShowsNow b s.now
-  pub cuts : b.run.machine.most_cuts ≤ b.run.machine.cuts + one_if s.cut_armed
+  pub cuts : b.run.machine.most_cuts ≡ b.run.machine.cuts + one_if s.cut_armed
   pub faults : b.run.machine.most_faults ≤ b.run.machine.faults + one_if s.fail_armed
   pub most_cuts : b.run.machine.cuts ≤ b.run.machine.most_cuts
   pub most_faults : b.run.machine.faults ≤ b.run.machine.most_faults
