@@ -1,6 +1,7 @@
 pub mod Streams
 pub mod Coming
 pub mod LinesMore
+pub mod Lives
 pub mod LineCount
 pub mod SeatLaws
 pub mod LoadRuns

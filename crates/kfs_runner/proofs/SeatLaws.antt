@@ -94,7 +94,7 @@ mounts_at l s (Down old may) past k n stands is =
 -- a session shows the state that it goes on from
 shows_up : (m : Machine) (now : Objects) (s : State) (b : Book) (live : Live) → AreArmed m s → ShowsLive b live → b.run.machine ≡ begun (record (restarted m) { stable = now }) 0 → ShowsState b (with_now s (Up live))
 shows_up m now s b live armed shows is =
-    let Cuts : Machine → Type 0 = λ x. x.most_cuts ≤ x.cuts + one_if s.cut_armed in
+    let Cuts : Machine → Type 0 = λ x. x.most_cuts ≡ x.cuts + one_if s.cut_armed in
     let Faults : Machine → Type 0 = λ x. x.most_faults ≤ x.faults + one_if s.fail_armed in
     let MostCuts : Machine → Type 0 = λ x. x.cuts ≤ x.most_cuts in
     let MostFaults : Machine → Type 0 = λ x. x.faults ≤ x.most_faults in
@@ -198,7 +198,8 @@ failed : (l : Limits) (m new : Machine) (s : State) (fault : HostFault) → Stor
 failed l m new s (Damaged damage) st not = absurd not.cause
 failed l m new s Cut st not =
     let t = disarmed s causes.Cut (fallen_now s.now) in
-    let r = rose_by m.cuts new.cuts m.most_cuts s.cut_armed st.armed.cuts st.armed.most_cuts st.armed.few_cuts not.cause.0.0 not.cause.0.1 in
+    let bound : m.most_cuts ≤ m.cuts + one_if s.cut_armed = omega (arith, st.armed.cuts) in
+    let r = rose_by m.cuts new.cuts m.most_cuts s.cut_armed bound st.armed.most_cuts st.armed.few_cuts not.cause.0.0 not.cause.0.1 in
     let most = not.bounds.most_cuts in
     let others = not.bounds.most_faults in (
       t,

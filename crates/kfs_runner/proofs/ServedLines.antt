@@ -31,6 +31,7 @@ use Rattle.kfs_runner.specs.Seats.{Seated, Stores, AreArmed, shows_seat, seat_li
 use Rattle.kfs_runner.specs.Serving.{formats, AreDone, IsServed, IsAnswered, Overflows, StandsFor, output_limit}
 use Rattle.kfs_runner.proofs.SeatLaws.{seat_stores, seat_room}
 use Rattle.kfs_runner.proofs.LinesMore.{one_counted}
+use Rattle.kfs_runner.proofs.Lives.{armed_by, ends_low}
 
 -- ---- on a device
 
@@ -142,16 +143,19 @@ moved l k ls ks text s t m n limits same strikes device all =
     let M : Machine → Type 0 = λ x. AreDone k ks text t x in
     subst M (sym device) (subst S strikes (subst B same (subst L limits all)))
 
-pub served : (old new : Flash) (ls : List Line) (text : List ℕ) → 256 ≤ old.blocks → CanRest new → age_in new.image < 2 ^ 62 → AreDone (limits_of old.blocks) ls text (strikes_of (new_on old)) (resting new) → IsServed ls text old new
-served old new ls text least rests low all =
+pub served : (old new : Flash) (ls : List Line) (text : List ℕ) → 256 ≤ old.blocks → length ls ≤ 2 ^ 23 → CanRest new → age_in new.image < 2 ^ 62 → AreDone (limits_of old.blocks) ls text (strikes_of (new_on old)) (resting new) → IsServed ls text old new
+served old new ls text least few rests low all =
     let blocks : new.blocks ≡ old.blocks = same_blocks new.blocks old.blocks rests.least least all.room in
     let S : ℕ → Type 0 = λ b. StandsFor b new.image all.end in
+    let numbers = ends_low (limits_of old.blocks) ls all.given all.end all.stores.past all.stores.k few all.are all.stores.stands in
     let here : StandsFor new.blocks new.image all.end = record {
       sound = taken new.blocks new.image rests.whole low;
       past = all.stores.past;
       k = all.stores.k;
       stands = all.stores.stands;
       saved = all.stores.saved;
+      few = numbers.0;
+      low = numbers.1;
     } in
     record {
       given = all.given;
@@ -159,4 +163,5 @@ served old new ls text least rests low all =
       answered = record { end = all.end; are = all.are; same = all.same; short = all.short; stands = subst S blocks here };
       cuts = ap (λ (s : Strikes). s.cuts) all.strikes;
       faults = ap (λ (s : Strikes). s.faults) all.strikes;
+      planned = all.stores.armed.cuts ∙ ap (λ b. new.cuts + one_if b) (armed_by (limits_of old.blocks) ls all.given all.end all.are);
     }

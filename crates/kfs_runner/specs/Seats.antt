@@ -25,9 +25,9 @@ abbrev pub seated : {A B : Type 0} → (A → Machine) → (A → ℕ) → Seat 
 seated machine age (seats.Mounted session) = Mounted session
 seated machine age (seats.Bare store) = Bare (machine store) (age store)
 
--- at most one cut and one fault are planned, and only where they are armed
+-- one cut is planned exactly where it is armed, and one fault at most where it is
 pub record AreArmed (m : Machine) (s : State) : Type 0 where
-  pub cuts : m.most_cuts ≤ m.cuts + one_if s.cut_armed
+  pub cuts : m.most_cuts ≡ m.cuts + one_if s.cut_armed
   pub faults : m.most_faults ≤ m.faults + one_if s.fail_armed
   pub most_cuts : m.cuts ≤ m.most_cuts
   pub most_faults : m.faults ≤ m.most_faults

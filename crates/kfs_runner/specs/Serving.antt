@@ -9,7 +9,7 @@ use Rattle.kfs_model.specs.declared.Answer.{Answer}
 use Rattle.kfs_model.specs.declared.Answer.TheVariants as answers
 use Rattle.kfs_model.specs.Life.{State, Life, Past, tree_at, newborn}
 use Rattle.kfs_script.specs.AnswerText.{texts_of}
-use Rattle.kfs_posix.specs.Showing.{IsSaved}
+use Rattle.kfs_posix.specs.Showing.{IsSaved, one_if}
 use Rattle.kssd_image.specs.Stages.{objects_in}
 use Rattle.kssd_image.specs.Whole.{Sound}
 use Rattle.kfs_runner.specs.declared.serving.ServeFault.{ServeFault}
@@ -19,7 +19,7 @@ use Rattle.kfs_posix.specs.Mounting.{limits_in}
 use Rattle.kfs_model.specs.Tree.{Limits}
 use Rattle.kv_device.specs.Machine.{Machine}
 use Rattle.kfs_runner.specs.Seats.{StandsAt, Stores}
-use Rattle.kfs_runner.specs.Strikes.{Strikes, strikes_of, struck_by, is_cut, is_failure}
+use Rattle.kfs_runner.specs.Strikes.{Strikes, strikes_of, struck_by, is_cut, is_failure, is_cut_planned}
 
 -- the most bytes of the text of the answers
 abbrev pub output_limit : ℕ
@@ -40,13 +40,15 @@ pub record IsUnplanned (flash : Flash) : Type 0 where
   pub few_faults : flash.faults ≤ 2 ^ 62
 
 -- a mount takes the image, and its objects stand for a tree of the life's past at which the device may
--- stand: they show it, or that without some of its nameless nodes
+-- stand: they show it, or that without some of its nameless nodes; its numbers are far from their end
 pub record StandsFor (blocks : ℕ) (image : Image) (end : State) : Type 0 where
   pub sound : Sound blocks image
   pub past : Past
   pub k : ℕ
   pub stands : StandsAt end.now past k
   pub saved : IsSaved (limits_of blocks) (objects_in image) (tree_at past k) k
+  pub few : k < 2 ^ 62
+  pub low : (tree_at past k).next < 2 ^ 62
 
 -- answers to a format and to the lines behind it, on a device that holds so much: `ok`, and a life that
 -- begins with the tree of a root alone
@@ -88,13 +90,14 @@ pub record AreDone (limits : Limits) (ls : List Line) (text : List ℕ) (before 
   pub strikes : strikes_of device ≡ struck_by before given
 
 -- the lines behind a format were done on a flash: their answers, each cut and each fault of the flash
--- told by one, and what the flash holds then
+-- told by one, what the flash holds then, and whether one more cut is planned
 pub record IsServed (ls : List Line) (text : List ℕ) (old new : Flash) : Type 0 where
   pub given : List Answer
   pub blocks : new.blocks ≡ old.blocks
   pub answered : IsAnswered old.blocks ls given text new.image
   pub cuts : new.cuts ≡ old.cuts + count_by is_cut given
   pub faults : new.faults ≡ old.faults + count_by is_failure given
+  pub planned : new.most_cuts ≡ new.cuts + one_if (is_cut_planned ls (drop 1 given))
 
 -- an answer brought the text above the limit, or memory was wanting
 abbrev pub StopsServing : Limits → List Line → ServeFault → Type 0

@@ -1,9 +1,11 @@
 -- How often power was cut and an operation failed, line by line.
-use Rattle.std.specs.Prelude.{ℕ, ◌+◌, Bool, true, false, List}
-use Rattle.std.specs.List.{count_by}
+use Rattle.std.specs.Prelude.{ℕ, ◌+◌, ◌&&◌, ◌||◌, not, Bool, true, false, List, [], ◌∷◌}
+use Rattle.std.specs.List.{count_by, list_any}
 use Rattle.kv_device.specs.Machine.{Machine}
 use Rattle.kfs_path.specs.declared.call.Cause.TheVariants as causes
 use Rattle.kfs_path.specs.declared.call.Reply.TheVariants as replies
+use Rattle.kfs_model.specs.declared.Line.{Line}
+use Rattle.kfs_model.specs.declared.Line.TheVariants as lines
 use Rattle.kfs_model.specs.declared.Answer.{Answer}
 use Rattle.kfs_model.specs.declared.Answer.TheVariants as answers
 use Rattle.kfs_posix.specs.Showing.{one_if}
@@ -34,3 +36,14 @@ struck s answer = record { cuts = s.cuts + one_if (is_cut answer); faults = s.fa
 -- those after all of these answers
 abbrev pub struck_by : Strikes → List Answer → Strikes
 struck_by s given = record { cuts = s.cuts + count_by is_cut given; faults = s.faults + count_by is_failure given }
+
+-- the line is `@cut`
+abbrev pub plans_cut : Line → Bool
+plans_cut (lines.Cut n how) = true
+plans_cut line = false
+
+-- some `@cut` has no answer `down cut` behind it
+abbrev pub is_cut_planned : List Line → List Answer → Bool
+is_cut_planned [] given = false
+is_cut_planned (line ∷ ls) [] = false
+is_cut_planned (line ∷ ls) (answer ∷ given) = (plans_cut line && not (list_any is_cut given)) || is_cut_planned ls given
