@@ -63,13 +63,7 @@ fn is_too_long(alloc: Global, most: usize) -> Option<bool>
 {
     let seat = format_map(alloc, 256).ok()?;
     let mut text = Text::new(alloc, b"ok\n").ok()?;
-    match answer_all(
-        alloc,
-        seat,
-        &[Line::Mount, Line::Mount],
-        most,
-        &mut text,
-    ) {
+    match answer_all(alloc, seat, &[Line::Mount, Line::Mount], most, &mut text) {
         Ok(_) => Some(false),
         Err(Unanswered::TooLong) => Some(true),
         Err(Unanswered::Memory) => None,
