@@ -1,5 +1,6 @@
 -- What stays of a device while pages of values are copied and erased.
-use Rattle.std.proofs.Common.{◌≡◌, ◌≢◌, ◌∙◌, ℕ, ◌+◌, ◌-◌, ◌*◌, ◌/◌, ◌<◌, ◌≤◌, Bool, true, false, cond, List, length, refl, sym, ap, subst, arith}
+use Rattle.std.proofs.Common.{◌≡◌, ◌≢◌, ◌∙◌, ◌⊎◌, inl, inr, ℕ, ◌+◌, ◌-◌, ◌*◌, ◌/◌, ◌<◌, ◌≤◌, Bool, true, false, cond, List, length, Option, Some, None, refl, sym, ap, subst, arith}
+use Rattle.std.proofs.lemmas.Bool.{cases_eq}
 use Rattle.kv_nand.specs.Flash.{Flash, Image}
 use Rattle.kv_nand.specs.Working.{Works}
 use Rattle.kv_nand.proofs.Chaining.{works_blocks, works_powered}
@@ -20,6 +21,7 @@ use Rattle.kssd_values.specs.Changes.{SameMarks, Clears}
 use Rattle.kssd_values.proofs.Standing.{not_erased}
 use Rattle.kssd_index.specs.Standing.{IsIndex}
 use Rattle.kssd_index.proofs.Anchored.{aged_still}
+use Rattle.kssd_reclaim.specs.declared.reclaim.Reclaim.{Reclaim}
 use Rattle.kssd_reclaim.specs.Sources.{is_visible}
 use Rattle.kssd_machine.specs.Names.{times_pending}
 use Rattle.kssd_machine.specs.Machines.{machine_of}
@@ -28,15 +30,19 @@ use Rattle.kssd_machine.proofs.Standing.{stays, works_same}
 use Rattle.kssd_machine.proofs.Keeping.{objects_stay, live_stand, pending_stays, still_valued}
 use Rattle.kssd_machine.proofs.Spacing.{live_most, within_limit, room_collected, room_cleared}
 use Rattle.kssd_mounted.specs.declared.mounted.Mounted.{Mounted}
+use Rattle.kssd_mounted.specs.Collections.{IsUnderWay, CollectsIn}
 use Rattle.kssd_mounted.specs.Standing.{Stands, Leaves, mounted_age}
 use Rattle.kssd_mounted.proofs.BesideValues.{index_stands}
-use Rattle.kssd_collect.specs.Collecting.{IsBusy, IsEmptied}
+use Rattle.kssd_collect.specs.Copied.{HasCopies}
+use Rattle.kssd_collect.specs.Collecting.{IsBusy, IsCollected, IsEmptied, IsUsedTheSame, FreesBlock}
 
 -- ---- the device
 
-pub busy_from : (m : Mounted) (flash : Flash) → Stands m flash → IsBusy m flash
+-- the device without its collection
+pub busy_from : (m : Mounted) (flash : Flash) → Stands m flash → IsBusy (record m { collection = None }) flash
 busy_from m flash h = record {
   powered = h.powered;
+  taken = refl;
   least = h.least;
   most = h.most;
   whole = h.whole;
@@ -52,6 +58,39 @@ busy_from m flash h = record {
   pages = h.pages;
 }
 
+-- the collection that is taken out
+pub collected_from : (m : Mounted) (flash : Flash) (r : Reclaim) → Stands m flash → m.collection ≡ Some r → IsCollected r (record m { collection = None }) flash
+collected_from m flash r h is =
+    let way : IsUnderWay r m.values flash.image = subst (λ (c : Option Reclaim). CollectsIn c m.values flash.image) is h.collecting in
+    record {
+      busy = busy_from m flash h;
+      copies = record { collects = way.collects; targets = way.targets; few = way.few; closed = way.closed; block = h.block };
+    }
+
+-- no block is being copied into where there is none
+pub none_into : (m : Mounted) (flash : Flash) → Stands m flash → m.collection ≡ None → has_target m.values ≡ false
+none_into m flash h is = subst (λ (c : Option Reclaim). CollectsIn c m.values flash.image) is h.collecting
+
+-- it is put back
+pub stands_again : (r : Reclaim) (m : Mounted) (flash : Flash) → IsCollected r m flash → Stands (record m { collection = Some r }) flash
+stands_again r m flash h = record {
+  powered = h.busy.powered;
+  least = h.busy.least;
+  most = h.busy.most;
+  whole = h.busy.whole;
+  index = h.busy.index;
+  device = h.busy.device;
+  fills = h.busy.fills;
+  collecting = record { closed = h.copies.closed; collects = h.copies.collects; targets = h.copies.targets; few = h.copies.few };
+  four = h.busy.four;
+  rising = h.busy.rising;
+  valued = h.busy.valued;
+  marked = h.busy.marked;
+  block = h.busy.block;
+  keys = h.busy.keys;
+  pages = h.busy.pages;
+}
+
 pub stands_from : (m : Mounted) (flash : Flash) → IsBusy m flash → has_target m.values ≡ false → Stands m flash
 stands_from m flash h idle = record {
   powered = h.powered;
@@ -61,7 +100,7 @@ stands_from m flash h idle = record {
   index = h.index;
   device = h.device;
   fills = h.fills;
-  idle = idle;
+  collecting = subst (λ (c : Option Reclaim). CollectsIn c m.values flash.image) (sym h.taken) idle;
   four = h.four;
   rising = h.rising;
   valued = h.valued;
@@ -127,6 +166,7 @@ busy_kept m values old new ops reads h keeps device marks fills block works =
     let shown = is.keeps.shown in
     record {
       powered = works_powered old new ops reads works ∙ h.powered;
+      taken = h.taken;
       least = subst (λ n. 256 ≤ n) (sym blocks) h.least;
       most = subst (λ n. n ≤ 2048) (sym blocks) h.most;
       whole = subst (λ n. IsWhole n new.image) (sym blocks) is.keeps.whole;
@@ -165,7 +205,7 @@ few_free v none idle = by (has_target v) idle none
 
 -- ---- the erase
 
-pub room_after : (r : Rattle.kssd_reclaim.specs.declared.reclaim.Reclaim.Reclaim) (m : Mounted) (flash : Flash) (w : Values) (block : ℕ) → IsEmptied r m flash → Clears m.values block w → free_room w ≢ 0
+pub room_after : (r : Reclaim) (m : Mounted) (flash : Flash) (w : Values) (block : ℕ) → IsEmptied r m flash → Clears m.values block w → free_room w ≢ 0
 room_after r m flash w block h clears none =
     let some = by (has_target m.values) refl in
     absurd (omega arith)
@@ -173,3 +213,23 @@ room_after r m flash w block h clears none =
     by : (b : Bool) → has_target m.values ≡ b → 1 ≤ free_room w
     by true is = room_collected m.values w block clears is h.room
     by false is = room_cleared m.values w block clears is (let one : 1 ≤ free_count m.values + 0 = subst (λ (b : Bool). 1 ≤ free_count m.values + cond b 1 0) is h.busy.block in omega arith)
+
+-- the open block has a page then, or one more block is free
+pub frees : (r : Reclaim) (m : Mounted) (flash : Flash) (w : Values) (block : ℕ) → IsEmptied r m flash → Clears m.values block w → FreesBlock m.values w
+frees r m flash w block h clears = by (has_target m.values) refl
+  where
+    room : has_target m.values ≡ true → open_room w ≢ 0
+    room has = elim (cases_eq (open_room m.values) 0) [
+      | inl none ↦ let opens = clears.opens has none in λ empty. absurd (let low = h.room in let sum = opens.1 in let next = opens.0 in omega arith)
+      | inr some ↦ λ empty. some (sym (clears.closes has some).room ∙ empty)
+    ]
+
+    by : (b : Bool) → has_target m.values ≡ b → FreesBlock m.values w
+    by true is = inl (room is)
+    by false is = inr (is, clears.free)
+
+pub frees_since : (u v w : Values) → IsUsedTheSame u v → FreesBlock v w → FreesBlock u w
+frees_since u v w same frees = elim frees [
+  | inl room ↦ inl room
+  | inr both ↦ inr (sym same.target ∙ both.0, both.1 ∙ ap (λ n. n + 1) same.free)
+]

@@ -27,8 +27,9 @@ use Rattle.kssd_values.specs.Pages.{Fills, FillsIn}
 use Rattle.kssd_values.specs.Changes.{SamePlaces}
 use Rattle.kssd_index.specs.declared.index.Index.{Index}
 use Rattle.kssd_index.specs.Standing.{IsIndex}
-use Rattle.kssd_index.specs.Mapping.{with_entries, IsBeforeOrAfter}
-use Rattle.kssd_index.proofs.Logs.{has_bytes}
+use Rattle.kssd_root.specs.Mapping.{with_entries, IsBeforeOrAfter}
+use Rattle.kssd_index.specs.Costs.{group_cost}
+use Rattle.kssd_root.proofs.Logs.{has_bytes}
 use Rattle.kssd_reclaim.specs.declared.copies.CopyOf.{CopyOf}
 use Rattle.kssd_reclaim.specs.declared.reclaim.Reclaim.{Reclaim}
 use Rattle.kssd_reclaim.specs.Sources.{is_visible, move_of}
@@ -51,6 +52,7 @@ use Rattle.kssd_mounted.specs.Standing.{Leaves, mounted_age}
 use Rattle.kssd_collect.specs.Moved.{CopiesStand, moved_mark, AreCopiesDead, HoldTheSame}
 use Rattle.kssd_collect.specs.Collecting.{IsCopied, IsEmptied}
 use Rattle.kssd_collect.proofs.Moves.{apart, target_block, places_then}
+use Rattle.kssd_collect.proofs.Short.{group_is_short}
 
 -- ---- the moves
 
@@ -94,6 +96,10 @@ keys_low r m flash es h = subst (λ n. n ≤ max_keys_in flash.blocks) (sym (key
 pub pages_low : (r : Reclaim) (m : Mounted) (flash : Flash) (es : List Entry) → AreOrdered r m flash es → length (pages_named (with_entries (shown_in flash.image) es)) ≤ max_pages_in flash.blocks
 unfolding shown_in
 pages_low r m flash es h = subst (λ n. n ≤ max_pages_in flash.blocks) (sym (pages_are r m flash es h)) h.copied.busy.whole.index.room.pages
+
+-- the group of the moves is short
+pub group_short : (r : Reclaim) (m : Mounted) (flash : Flash) (es : List Entry) → AreOrdered r m flash es → group_cost m.index es ≤ 3
+group_short r m flash es h = subst (λ (xs : List Entry). group_cost m.index xs ≤ 3) (sym h.is) (group_is_short m.index r m.values flash.image (moves r m flash h.copied) (few_copies r m flash h.copied))
 
 -- ---- the log
 
@@ -376,6 +382,7 @@ emptied r m old new es index w u lists ops reads h kept works stands shown visib
     record {
       busy = record {
         powered = works_powered old new ops reads works ∙ busy.powered;
+        taken = busy.taken;
         least = subst (λ n. 256 ≤ n) (sym blocks) busy.least;
         most = subst (λ n. n ≤ 2048) (sym blocks) busy.most;
         whole = subst (λ n. IsWhole n new.image) (sym blocks) (whole_logged r m old new.image es h kept);

@@ -1,10 +1,9 @@
 -- One step of copying after another.
-use Rattle.std.proofs.Common.{◌≡◌, ◌≢◌, ◌∙◌, ◌⊎◌, inl, inr, ℕ, ◌+◌, ◌-◌, ◌*◌, ◌/◌, ◌%◌, ◌<◌, ◌≤◌, Bool, true, false, cond, ◌||◌, ◌&&◌, eqb, ltb, [], length, Option, Some, None, is_some, refl, sym, ap, subst, arith}
-use Rattle.std.specs.Prelude.{IsTrue, ◌↔◌}
+use Rattle.std.proofs.Common.{◌≡◌, ◌≢◌, ◌∙◌, ◌⊎◌, inl, inr, ℕ, ◌+◌, ◌-◌, ◌*◌, ◌/◌, ◌%◌, ◌<◌, ◌≤◌, Bool, true, false, cond, ◌||◌, ◌&&◌, eqb, ltb, List, [], length, get_or, Option, Some, None, is_some, refl, sym, ap, subst, arith}
 use Rattle.std.proofs.lemmas.Bool.{and_parts, and_from, eqb-true, eq-eqb, or_left, or_right, cases_Bool}
-use Rattle.kv_nand.specs.Flash.{Flash, Image}
-use Rattle.kv_nand.specs.Working.{Works}
-use Rattle.kv_nand.proofs.Chaining.{works_blocks, works_then_works, works_within, works_still}
+use Rattle.kv_nand.specs.Flash.{Flash, Image, IsSound}
+use Rattle.kv_nand.specs.Working.{Works, ops_more}
+use Rattle.kv_nand.proofs.Chaining.{works_blocks, works_then_works, works_within, works_still, works_no_ops, ops_then_ops}
 use Rattle.kssd_values.specs.Marks.{is_live}
 use Rattle.kssd_values.specs.declared.filling.Filling.{Filling}
 use Rattle.kssd_values.specs.declared.values.Values.{Values}
@@ -13,6 +12,7 @@ use Rattle.kssd_values.specs.Blocks.{Free, Open, Closed, Target, device_of, is_l
 use Rattle.kssd_values.specs.Pages.{is_value, Fills, KeepsPages, StandsIn}
 use Rattle.kssd_values.specs.Changes.{SameMarks, Copies}
 use Rattle.kssd_values.proofs.Standing.{live_stays}
+use Rattle.kssd_reclaim.specs.declared.copies.CopyOf.{CopyOf}
 use Rattle.kssd_reclaim.specs.declared.reclaim.Reclaim.{Reclaim}
 use Rattle.kssd_reclaim.specs.Reclaim.{block_of, next_of, copies_of, AllCopied, Collects}
 use Rattle.kssd_reclaim.specs.Steps.{Steps}
@@ -20,7 +20,7 @@ use Rattle.kssd_machine.specs.Marked.{HasBlock}
 use Rattle.kssd_machine.proofs.Remaining.{block_after_copy}
 use Rattle.kssd_machine.proofs.Moving.{targets_kept}
 use Rattle.kssd_machine.proofs.Copying.{few_first, few_after}
-use Rattle.kssd_collect.specs.Copied.{copies_left, IsCopying}
+use Rattle.kssd_collect.specs.Copied.{HasCopies, copies_left, IsCopying}
 
 -- ---- what a step does to the blocks
 
@@ -41,7 +41,7 @@ below_open v q = by v.opened refl
     by (Some f) e h =
         let both = and_parts (eqb (q / 32) f.block) (ltb (q % 32) f.next) h in
         let here : is_in v.opened (q / 32) ≡ true = ap (λ (o : Option Filling). is_in o (q / 32)) e ∙ eq-eqb f.block (q / 32) (sym (eqb-true (q / 32) f.block both.0)) in (
-          ap (λ b. cond b Open (cond (is_in v.target (q / 32)) Target (cond (Rattle.std.proofs.Common.get_or v.free.items (q / 32) false) Free Closed))) here,
+          ap (λ b. cond b Open (cond (is_in v.target (q / 32)) Target (cond (get_or v.free.items (q / 32) false) Free Closed))) here,
           subst (λ (o : Option Filling). q % 32 < next_in o) (sym e) (Rattle.std.proofs.lemmas.Bool.ltb-true (q % 32) f.next both.1),
         )
 
@@ -57,7 +57,7 @@ open_below v q state low = by v.opened refl low
     by : (o : Option Filling) → v.opened ≡ o → q % 32 < next_in o → is_below_in o q ≡ true
     by None e less = absurd (omega arith)
     by (Some f) e less =
-        let here : is_in (Some f) (q / 32) ≡ true = ap (λ (o : Option Filling). is_in o (q / 32)) (sym e) ∙ is_open (is_in v.opened (q / 32)) (is_in v.target (q / 32)) (Rattle.std.proofs.Common.get_or v.free.items (q / 32) false) state in
+        let here : is_in (Some f) (q / 32) ≡ true = ap (λ (o : Option Filling). is_in o (q / 32)) (sym e) ∙ is_open (is_in v.opened (q / 32)) (is_in v.target (q / 32)) (get_or v.free.items (q / 32) false) state in
         and_from (eqb (q / 32) f.block) (ltb (q % 32) f.next) (eq-eqb (q / 32) f.block (sym (eqb-true f.block (q / 32) here))) (Rattle.std.proofs.lemmas.Bool.lt-ltb (q % 32) f.next less)
 
 -- what was filled is, where the open block is as it was
@@ -113,10 +113,6 @@ step_done old new v w before after steps = elim steps [
 
 -- ---- how many steps are left
 
-pub record IsLess (old new : Reclaim) (v w : Values) (before after : Flash) : Type 0 where
-  pub less : copies_left new w + 1 ≤ copies_left old v
-  pub few : copies_left old v ≤ 33
-
 fewer_left : (next old_next : ℕ) (had has : Bool) → (next ≤ 32) × (old_next ≤ 32) → ((next ≡ old_next) × (had ≡ false) × (has ≡ true)) ⊎ ((old_next < next) × (had ≡ true) × (has ≡ true))
     → (32 - next) + cond has 0 1 + 1 ≤ (32 - old_next) + cond had 0 1
 fewer_left next old_next had has within which = elim which [
@@ -124,20 +120,28 @@ fewer_left next old_next had has within which = elim which [
   | inr on ↦ rw (on.1, on.2) (let e = on.0 in omega (arith, within.0))
 ]
 
--- a step does nothing where all is copied, and else fewer are left
-pub less_left : (old new : Reclaim) (v w : Values) (before after : Flash) → Steps old v before new w after
-    → ((after ≡ before) × (copies_left new w ≡ copies_left old v) × AllCopied new w) ⊎ (copies_left new w + 1 ≤ copies_left old v)
-less_left old new v w before after steps = elim steps [
-  | inl idle ↦ inl (
-    idle.flash,
-    (λ i. (32 - idle.waits.next i) + cond (has_target (idle.values i)) 0 1),
-    λ page ahead. ap (λ (x : Values). is_live_at x page) idle.values ∙ idle.all page (record { block_is = ahead.block_is ∙ idle.waits.block; from = subst (λ n. n ≤ page % 32) idle.waits.next ahead.from }),
-  )
-  | inr more ↦ inr (elim more [
-    | inl begins ↦ fewer_left (next_of new) (next_of old) (has_target v) (has_target w) (new.sound.within, old.sound.within) (inl (begins.waits.next, (begins.values.begins refl).0, begins.values.has))
-    | inr next ↦ fewer_left (next_of new) (next_of old) (has_target v) (has_target w) (new.sound.within, old.sound.within)
-        (inr (let from = next.source.ahead.from in let e = next.next in (omega arith, (next.values.goes_on next.copy.target refl).had, next.values.has)))
-  ])
+-- a step where not all is copied is one operation, after which fewer are left and a block is being copied into
+record IsMore (old new : Reclaim) (v w : Values) (before after : Flash) : Type 0 where
+  ops : after.ops ≡ ops_more before 1
+  less : copies_left new w + 1 ≤ copies_left old v
+  has : has_target w ≡ true
+
+one_more : (old new : Reclaim) (v w : Values) (before after : Flash) → (AllCopied old v → ⊥) → Steps old v before new w after → IsMore old new v w before after
+one_more old new v w before after some steps = elim steps [
+  | inl idle ↦ absurd (some idle.all)
+  | inr more ↦ elim more [
+    | inl begins ↦ record {
+      ops = begins.ops;
+      less = fewer_left (next_of new) (next_of old) (has_target v) (has_target w) (new.sound.within, old.sound.within) (inl (begins.waits.next, (begins.values.begins refl).0, begins.values.has));
+      has = begins.values.has;
+    }
+    | inr next ↦ record {
+      ops = next.ops;
+      less = fewer_left (next_of new) (next_of old) (has_target v) (has_target w) (new.sound.within, old.sound.within)
+          (inr (let from = next.source.ahead.from in let e = next.next in (omega arith, (next.values.goes_on next.copy.target refl).had, next.values.has)));
+      has = next.values.has;
+    }
+  ]
 ]
 
 pub left_most : (r : Reclaim) (v : Values) → copies_left r v ≤ 33
@@ -146,17 +150,6 @@ left_most r v = by (has_target v)
     by : (b : Bool) → (32 - next_of r) + cond b 0 1 ≤ 33
     by true = omega arith
     by false = omega arith
-
--- the measure falls
-pub falls : (old new : Reclaim) (v w : Values) (before after : Flash) (done : Bool) → Steps old v before new w after → IsTrue done ↔ AllCopied new w → copies_left new w + cond done 0 1 < copies_left old v + 1
-falls old new v w before after done steps is = elim (less_left old new v w before after steps) [
-  | inl idle ↦ let ended : done ≡ true = is.1 idle.2 in rw ended (let e = idle.1 in omega arith)
-  | inr less ↦ most done less
-]
-  where
-    most : (b : Bool) → copies_left new w + 1 ≤ copies_left old v → copies_left new w + cond b 0 1 < copies_left old v + 1
-    most true less = omega arith
-    most false less = omega arith
 
 -- ---- the copying
 
@@ -173,7 +166,7 @@ has_block v has = by (has_target v) has
     by false h = inl (omega arith)
 
 none_copied_into : (v : Values) (block : ℕ) → has_target v ≡ false → state_at v block ≡ Target → ⊥
-none_copied_into v block none state = by v.target none (is_target (is_in v.opened block) (is_in v.target block) (Rattle.std.proofs.Common.get_or v.free.items block false) state)
+none_copied_into v block none state = by v.target none (is_target (is_in v.opened block) (is_in v.target block) (get_or v.free.items block false) state)
   where
     is_target : (o t f : Bool) → cond o Open (cond t Target (cond f Free Closed)) ≡ Target → t ≡ true
     is_target true t f h = absurd cc
@@ -185,24 +178,31 @@ none_copied_into v block none state = by v.target none (is_target (is_in v.opene
     by None h is = cc
     by (Some f) h is = cc
 
-pub begun : (r : Reclaim) (v : Values) (flash : Flash) (block : ℕ) → IsVictim v block → has_target v ≡ false → HasBlock v → StandsIn v flash → block_of r ≡ block → next_of r ≡ 0 → copies_of r ≡ [] → Collects r v flash.image → IsCopying v flash r v flash
-begun r v flash block victim none has stands is first empty collects = record {
-  copies = record {
-    collects = collects;
-    targets = record {
-      dead = λ page state. absurd (none_copied_into v (page / 32) none state);
-      rising = λ i j d less low. let long = ap (λ (cs : Rattle.std.proofs.Common.List Rattle.kssd_reclaim.specs.declared.copies.CopyOf.CopyOf). length cs) empty in absurd (omega arith);
-    };
-    few = few_first r v block victim none is first empty;
-    closed = subst (IsClosed v) (sym is) victim.closed;
-    block = has;
+-- a collection that begins with a victim has no copies
+pub first_copies : (r : Reclaim) (v : Values) (image : Image) → IsVictim v (block_of r) → has_target v ≡ false → HasBlock v → next_of r ≡ 0 → copies_of r ≡ [] → Collects r v image → HasCopies r v image
+first_copies r v image victim none has first empty collects = record {
+  collects = collects;
+  targets = record {
+    dead = λ page state. absurd (none_copied_into v (page / 32) none state);
+    rising = λ i j d less low. let long = ap (λ (cs : List CopyOf). length cs) empty in absurd (omega arith);
   };
+  few = few_first r v (block_of r) victim none refl first empty;
+  closed = victim.closed;
+  block = has;
+}
+
+pub begun : (r : Reclaim) (v : Values) (flash : Flash) → IsSound flash → HasCopies r v flash.image → StandsIn v flash → IsCopying r v flash 0 r v flash
+begun r v flash sound copies stands = record {
+  copies = copies;
   stands = stands;
   device = refl;
   marks = λ q. refl;
   filled = λ q h. h;
   keeps = record { outside = λ q h. refl; live = λ q h e. refl; filled = λ q h. refl };
-  works = let left : copies_left r v ≡ 33 = (λ i. (32 - first i) + cond (none i) 0 1) in works_within flash flash 0 0 _ _ (works_still flash) (omega arith) (omega arith);
+  works = works_still flash;
+  exact = works_no_ops flash flash 0 sound (works_still flash);
+  fewer = omega arith;
+  none = λ is. refl;
 }
 
 -- what was kept until now is kept
@@ -213,11 +213,12 @@ keeps_on v0 v a b c device marks filled first later = record {
   filled = λ q is. later.filled q (filled q is) ∙ first.filled q is;
 }
 
-pub copying_on : (v0 : Values) (f0 : Flash) (old new : Reclaim) (v w : Values) (before after : Flash) → IsCopying v0 f0 old v before → Steps old v before new w after → Collects new w after.image → Fills w after.image
-    → KeepsPages v before.image after.image → Works before after 1 2 → IsCopying v0 f0 new w after
-copying_on v0 f0 old new v w before after h steps collects fills keeps works =
+pub copying_on : (first : Reclaim) (v0 : Values) (f0 : Flash) (done : ℕ) (old new : Reclaim) (v w : Values) (before after : Flash) → IsCopying first v0 f0 done old v before → (AllCopied old v → ⊥) → Steps old v before new w after → Collects new w after.image → Fills w after.image
+    → KeepsPages v before.image after.image → Works before after 1 2 → IsCopying first v0 f0 (done + 1) new w after
+copying_on first v0 f0 done old new v w before after h some steps collects fills keeps works =
     let both = step_done old new v w before after steps in
     let step = both.0 in
+    let more = one_more old new v w before after some steps in
     record {
       copies = record {
         collects = collects;
@@ -235,8 +236,8 @@ copying_on v0 f0 old new v w before after h steps collects fills keeps works =
       marks = λ q. step.marks q ∙ h.marks q;
       filled = λ q is. step.filled q (h.filled q is);
       keeps = keeps_on v0 v f0.image before.image after.image h.device h.marks h.filled h.keeps keeps;
-      works = elim (less_left old new v w before after steps) [
-        | inl idle ↦ subst (λ (f : Flash). Works f0 f (33 - copies_left new w) (66 - 2 * copies_left new w)) (sym idle.0) (let e = idle.1 in works_within f0 before _ _ _ _ h.works (omega arith) (omega arith))
-        | inr less ↦ let most = left_most old v in works_within f0 after _ _ _ _ (works_then_works f0 before after _ _ 1 2 h.works works) (omega arith) (omega arith)
-      ];
+      works = works_within f0 after _ _ _ _ (works_then_works f0 before after done (2 * done) 1 2 h.works works) (omega arith) (omega arith);
+      exact = ops_then_ops f0 before after done 1 h.exact more.ops;
+      fewer = let less = more.less in let few = h.fewer in omega arith;
+      none = λ is. absurd (let e : true ≡ false = sym more.has ∙ is in cc);
     }

@@ -1,6 +1,10 @@
 -- How many operations and reads a collection takes.
 use Rattle.std.specs.Prelude.{◌+◌, ◌^◌, ℕ}
-use Rattle.kssd_index.specs.Costs.{most_place_cost}
+use Rattle.kssd_root.specs.Costs.{most_place_cost}
+
+-- at most so many operations end a collection: those that make place, 264 for a group, and an erase
+abbrev pub most_finish_cost : ℕ → ℕ
+most_finish_cost blocks = most_place_cost blocks + 265
 
 -- at most so many operations: 34 to copy a block's pages, those that make place, 264 for a group, and an erase
 abbrev pub most_collect_cost : ℕ → ℕ

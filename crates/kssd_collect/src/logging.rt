@@ -11,8 +11,10 @@ ghost use Rattle.kssd_values.specs.Places.{IsValueBlock};
 ghost use Rattle.kssd_values.specs.Blocks.{device_of};
 ghost use Rattle.kssd_reclaim.specs.Reclaim.{block_of, copies_of, moves_of};
 ghost use Rattle.kssd_index.specs.Standing.{IsIndex, index_age};
-ghost use Rattle.kssd_index.specs.Mapping.{with_entries, IsKept, IsBeforeOrAfter};
-ghost use Rattle.kssd_index.specs.Costs.{has_place_in, most_place_cost};
+ghost use Rattle.kssd_root.specs.Mapping.{with_entries, IsKept, IsBeforeOrAfter};
+ghost use Rattle.kssd_index.specs.Costs.{has_place_in, group_cost};
+ghost use Rattle.kssd_root.specs.Costs.{most_place_cost};
+ghost use Rattle.kssd_collect.specs.Placing.{IsStill};
 
 use kssd_entry::Entries;
 use kssd_index::Index;
@@ -72,6 +74,7 @@ fn find_place<N: Nand>(
     requires number { index_age index.old + 2 ^ 20 ≤ 2 ^ 63 }
     ensures stands { OnOk result (IsIndex index.new (N.flash nand.new).blocks (N.flash nand.new).image) }
     ensures place { OnOk result (has_place_in index.new entries.now ≡ true) }
+    ensures still { has_place_in index.old entries.now ≡ true → IsStill index.old (N.flash nand.old) index.new (N.flash nand.new) × IfErr result (λ _. ⊥) }
     ensures kept { IsKept (N.flash nand.old).blocks (N.flash nand.old).image (N.flash nand.new).image }
     ensures aged { age_in (N.flash nand.new).image ≤ index_age index.new }
     ensures ages { index_age index.new ≤ index_age index.old + 2 ^ 8 }
@@ -104,7 +107,10 @@ pub fn log_entries<N: Nand>(
     ensures aged { age_in (N.flash nand.new).image ≤ index_age index.new }
     ensures ages { index_age index.new ≤ index_age index.old + 2 ^ 9 }
     ensures works { OnOk result (Works (N.flash nand.old) (N.flash nand.new) (most_place_cost (N.flash nand.old).blocks + 264) (2 ^ 64)) }
+    ensures none { length entries.now ≡ 0 → IsStill index.old (N.flash nand.old) index.new (N.flash nand.new) × IfErr result (λ _. ⊥) }
+    ensures placed { has_place_in index.old entries.now ≡ true → OnOk result (Works (N.flash nand.old) (N.flash nand.new) (group_cost index.old entries.now) 0) }
     ensures stops { IfErr result (λ fault. Stops (N.flash nand.old) fault (N.flash nand.new) (most_place_cost (N.flash nand.old).blocks + 264) (2 ^ 64)) }
+    ensures placed_stops { has_place_in index.old entries.now ≡ true → IfErr result (λ fault. Stops (N.flash nand.old) fault (N.flash nand.new) (group_cost index.old entries.now) 0) }
 {
     if entries.len() == 0 {
         return Ok(());

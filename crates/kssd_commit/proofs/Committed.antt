@@ -9,7 +9,7 @@ use Rattle.kssd_entry.specs.declared.entry.Entry.{Entry}
 use Rattle.kssd_image.specs.Stages.{shown_in, objects_in}
 use Rattle.kssd_image.specs.Whole.{IsWhole, age_in}
 use Rattle.kssd_frames.specs.Logging.{shown_after, IsRoomAfter}
-use Rattle.kssd_index.specs.Mapping.{SameValues, IsBeforeOrAfter}
+use Rattle.kssd_root.specs.Mapping.{SameValues, IsBeforeOrAfter}
 use Rattle.kssd_tx.specs.Lists.{Transactions, changes_of, with_list}
 use Rattle.kssd_tx.specs.Refusals.{tx_refusal}
 use Rattle.kssd_machine.specs.Machines.{machine_of, resting}

@@ -13,7 +13,7 @@ use Rattle.kssd_log.specs.Ring.{room_of, turns_for}
 use Rattle.kssd_log.specs.Append.{pages_of}
 use Rattle.kssd_index.specs.declared.index.Index.{Index}
 use Rattle.kssd_index.specs.Standing.{IsIndex}
-use Rattle.kssd_index.specs.Mapping.{HasIndex, IsKept, IsBeforeOrAfter, with_entries}
+use Rattle.kssd_root.specs.Mapping.{HasIndex, IsKept, IsBeforeOrAfter, with_entries}
 use Rattle.kssd_index.specs.Costs.{has_place_in, group_cost}
 
 -- a group that has place takes few operations

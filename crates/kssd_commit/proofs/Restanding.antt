@@ -1,5 +1,5 @@
 -- A device stands after an end.
-use Rattle.std.proofs.Common.{◌≡◌, ◌≢◌, ◌∙◌, ℕ, ◌/◌, ◌≤◌, true, false, cond, List, [], ◌∷◌, ◌++◌, length, Option, Some, None, unwrap_or, refl, sym, ap, subst, arith}
+use Rattle.std.proofs.Common.{◌≡◌, ◌≢◌, ◌∙◌, ℕ, ◌/◌, ◌≤◌, Bool, true, false, cond, List, [], ◌∷◌, ◌++◌, length, Option, Some, None, unwrap_or, refl, sym, ap, subst, arith}
 use Rattle.std.specs.List.{list_all}
 use Rattle.std.proofs.lemmas.Bool.{and_parts, and_from}
 use Rattle.std.proofs.lemmas.List.{length-set}
@@ -25,11 +25,11 @@ use Rattle.kssd_values.specs.Changes.{SamePlaces}
 use Rattle.kssd_values.proofs.Filled.{in_same}
 use Rattle.kssd_index.specs.declared.index.Index.{Index}
 use Rattle.kssd_index.specs.Standing.{IsIndex}
-use Rattle.kssd_index.specs.Mapping.{SameValues, IsBeforeOrAfter}
+use Rattle.kssd_root.specs.Mapping.{SameValues, IsBeforeOrAfter}
 use Rattle.kssd_tx.specs.Lists.{Transactions, changes_of, with_list}
 use Rattle.kssd_machine.specs.Names.{times_pending, are_valued}
 use Rattle.kssd_machine.specs.Sizes.{listed, replaced}
-use Rattle.kssd_machine.specs.Marked.{is_pending, is_named, AreMarked, IsRemarked}
+use Rattle.kssd_machine.specs.Marked.{is_pending, is_named, remarked, AreMarked, IsRemarked}
 use Rattle.kssd_machine.proofs.Seeing.{found_passes, list_valued}
 use Rattle.kssd_machine.proofs.Moving.{is_free}
 use Rattle.kssd_machine.proofs.Tagging.{named_some, pending_closed, ends}
@@ -40,6 +40,7 @@ use Rattle.kssd_machine.proofs.Valuing.{valued_closed}
 use Rattle.kssd_machine.proofs.Remaining.{block_after_mark}
 use Rattle.kssd_mounted.specs.declared.mounted.Mounted.{Mounted}
 use Rattle.kssd_mounted.specs.Standing.{Stands}
+use Rattle.kssd_mounted.proofs.Bearing.{collection_stays, bears_outside, live_before}
 use Rattle.kssd_mounted.proofs.Changing.{named_region}
 use Rattle.kssd_commit.specs.declared.judging.Judged.{Judged}
 use Rattle.kssd_commit.specs.Judging.{IsJudged}
@@ -68,6 +69,14 @@ pending_taken v visible lists tx page marked named free =
     let some : 1 ≤ times_pending page lists = omega (arith, named_some page (changes_of lists tx) named, pending_closed page lists tx) in
     let live : is_live_at v page ≡ true = live_since (mark_at v page) (times_pending page lists) (marked.pending page) some in
     absurd (let e : false ≡ true = sym (v.sound.dead page (is_free v (page / 32) free)) ∙ live in cc)
+
+-- a page that is live after an end was live before
+still_live : (v w : Values) (visible : List Entry) (lists : Transactions) (tx : ℕ) (gone : List Entry) (page : ℕ) → AreMarked v visible lists → IsRemarked v gone (changes_of lists tx) marks.Visible w → is_live_at w page ≡ true → is_live_at v page ≡ true
+still_live v w visible lists tx gone page marked remark live = by (is_named page (changes_of lists tx)) refl (sym (ap is_live (remark page)) ∙ live)
+  where
+    by : (b : Bool) → is_named page (changes_of lists tx) ≡ b → is_live (cond b marks.Visible (remarked gone marks.Dead (mark_at v) page)) ≡ true → is_live_at v page ≡ true
+    by true named h = live_since (mark_at v page) (times_pending page lists) (marked.pending page) (let some : 1 ≤ times_pending page lists = omega (arith, named_some page (changes_of lists tx) named, pending_closed page lists tx) in some)
+    by false none h = live_before (is_named page gone) (mark_at v page) h
 
 -- ---- values of changes
 
@@ -108,7 +117,7 @@ module _ (m : Mounted) (old : Flash) (tx : ℕ) (judged : Judged) (stands : Stan
 
   pub stands_then : (new : Flash) (entries : List Entry) (index : Index) (values : Values) (ops reads : ℕ) → IsSound old → entries ≡ changes_of m.changes tx → Works old new ops reads → IsIndex index new.blocks new.image
       → IsBeforeOrAfter old.blocks old.image entries new.image → shown_in new.image ≡ shown_after old.image entries → IsRemarked m.values judged.replaced entries marks.Visible values → SamePlaces m.values values
-      → Stands (record { index = index; values = values; changes = with_list m.changes tx None; keys = judged.keys; pages = judged.pages }) new
+      → Stands (record { index = index; values = values; changes = with_list m.changes tx None; collection = m.collection; keys = judged.keys; pages = judged.pages }) new
   stands_then new entries index values ops reads sound same works index_is either shown marked places =
       let blocks : new.blocks ≡ old.blocks = ap (λ (f : Flash). f.blocks) works.after in
       let shown_ : shown_in new.image ≡ shown_after old.image (changes_of m.changes tx) = shown ∙ ap (shown_after old.image) same in
@@ -122,7 +131,10 @@ module _ (m : Mounted) (old : Flash) (tx : ℕ) (judged : Judged) (stands : Stan
         index = index_is;
         device = places.device ∙ stands.device ∙ sym blocks;
         fills = places.fills new.image (fills_still m.values old.image new.image (subst (λ n. SameValues n old.image new.image) (sym stands.device) either.values) stands.fills);
-        idle = places.target.has ∙ stands.idle;
+        collecting = collection_stays m.collection m.values values old.image new.image stands.collecting
+            (bears_outside m.values values old.image new.image places
+            (λ page live. still_live m.values values (shown_in old.image) m.changes tx (replaced (shown_in old.image) (changes_of m.changes tx)) page stands.marked remarked_ live)
+            (λ page value. either.values page (subst (λ n. first_value_block_in n ≤ page / 32) stands.device value)));
         four = length-set m.changes tx None ∙ stands.four;
         rising = rising_closed m.changes tx stands.rising;
         valued = subst (λ n. are_valued n new.image (with_list m.changes tx None) ≡ true) (sym blocks) (lists_valued old.blocks old.image new.image (with_list m.changes tx None) either.values (valued_closed old.blocks old.image m.changes tx stands.valued));

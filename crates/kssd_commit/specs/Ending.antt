@@ -1,7 +1,7 @@
 -- What the end of a transaction costs.
 use Rattle.std.specs.Prelude.{◌≡◌, ◌≤◌, ◌+◌, ℕ}
 use Rattle.kv_nand.specs.Flash.{Flash}
-use Rattle.kssd_index.specs.Costs.{most_place_cost}
+use Rattle.kssd_root.specs.Costs.{most_place_cost}
 
 -- no operation was begun
 abbrev pub IsUntouched : Flash → Flash → Type 0

@@ -6,7 +6,7 @@ ghost use Rattle.kssd_image.specs.Stages.{shown_in};
 ghost use Rattle.kssd_image.specs.Whole.{age_in};
 ghost use Rattle.kssd_frames.specs.Logging.{shown_after, IsRoomAfter};
 ghost use Rattle.kssd_index.specs.Standing.{IsIndex, index_age};
-ghost use Rattle.kssd_index.specs.Mapping.{IsBeforeOrAfter};
+ghost use Rattle.kssd_root.specs.Mapping.{IsBeforeOrAfter};
 ghost use Rattle.kssd_commit.specs.Ending.{most_end_cost};
 
 use kssd_entry::Entries;

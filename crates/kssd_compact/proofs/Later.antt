@@ -1,16 +1,18 @@
 -- A job after some of its steps.
+use mir.Val.{bool_byte}
 use Rattle.std.proofs.Common.{◌≡◌, ◌∙◌, ℕ, ◌+◌, ◌-◌, ◌/◌, ◌<◌, ◌≤◌, ◌^◌, Bool, true, false, cond, List, refl, ap, arith, inl, inr}
 use Rattle.std.proofs.Math.Logic.{∥∥₁_elim, ∥∥₁_map}
 use Rattle.std.specs.Coded.{le_prop}
 use Rattle.kv_nand.specs.Flash.{Image, Flash, IsSound}
 use Rattle.kv_nand.specs.declared.fault.FlashFault.{FlashFault}
-use Rattle.kv_nand.specs.Working.{Works, Stops}
-use Rattle.kv_nand.proofs.Chaining.{works_then_works, works_then_stops, works_still, works_within}
+use Rattle.kv_nand.specs.Working.{Works, Stops, ops_more}
+use Rattle.kv_nand.proofs.Chaining.{works_then_works, works_then_stops, works_still, works_within, ops_then_ops}
 use Rattle.kssd_layout.specs.Laws.{pages_for, blocks_for}
 use Rattle.kssd_entry.specs.declared.entry.Entry.{Entry}
 use Rattle.kssd_levels.specs.Runs.{has_block}
 use Rattle.kssd_compact.specs.declared.job.Job.{Job}
-use Rattle.kssd_compact.specs.Job.{IsSameJob, StandsJob, CanStepJob, CountsStep, job_blocks, job_done, steps_done, steps_most}
+use Rattle.kssd_compact.specs.Job.{IsSameJob, StandsJob, CanStepJob, CountsStep, TellsStep, job_blocks, job_done, steps_done, steps_most}
+use Rattle.kssd_compact.specs.Finishing.{GoesOn}
 use Rattle.kssd_compact.proofs.Jobs.{jobs_finish}
 
 pub same_then : (a b c : Job) → IsSameJob a b → IsSameJob b c → IsSameJob a c
@@ -109,3 +111,80 @@ later_stops old now a b c fault sound h can going stops =
 
 pub later_works : (old now : Job) (a b : Flash) → IsLater old a now b → CanStepJob now b.blocks b.image → Works a b (steps_most old - steps_done old) (2 ^ 64)
 later_works old now a b h can = works_within a b (steps_done now - steps_done old) (2 ^ 64) (steps_most old - steps_done old) (2 ^ 64) h.works (omega (arith, (some_left now b.blocks b.image can).0, same_most old now h.same)) (omega arith)
+
+-- ---- steps within a number of operations
+
+pub goes_still : (job : Job) (flash : Flash) → GoesOn job flash job flash
+goes_still job flash = record {
+  same = record { kind = refl; level = refl; number = refl; total = refl; blocks = refl; inputs = refl };
+  stands = λ goal h. h;
+  outside = λ page none. refl;
+}
+
+pub goes_step : (old now new : Job) (a b c : Flash) → GoesOn old a now b
+    → ((goal : List Entry) → StandsJob now goal b.blocks b.image → StandsJob new goal c.blocks c.image) → IsSameJob now new
+    → ((page : ℕ) → has_block (job_blocks now) (page / 32) ≡ false → c.image page ≡ b.image page) → GoesOn old a new c
+goes_step old now new a b c h stands same outside = record {
+  same = same_then old now new h.same same;
+  stands = λ goal at. stands goal (h.stands goal at);
+  outside = λ page none. outside page (ap (λ (bs : List ℕ). has_block bs (page / 32)) h.same.blocks ∙ none) ∙ h.outside page none;
+}
+
+pub can_go : (old new : Job) (before after : Flash) → GoesOn old before new after → CanStepJob old before.blocks before.image → CanStepJob new after.blocks after.image
+can_go old new before after goes can = ∥∥₁_elim can squash₁ (λ p. ∥∥₁_map (goes.stands p.0 ∣ p.1 ∣₁) (λ j. (p.0, j)))
+
+tells : (wrote : Bool) (before : Flash) (new : Job) (after : Flash) → IsSound before → TellsStep wrote before new after → after.ops ≡ ops_more before (bool_byte wrote)
+tells true before new after sound h = h
+tells false before new after sound h = omega (arith, h.0, sound.ops)
+
+-- so many operations were done, and what is left of them all
+pub record IsWithin (most left : ℕ) (old new : Flash) : Type 0 where
+  pub few : left ≤ most
+  pub works : Works old new (most - left) (2 ^ 64)
+  pub exact : new.ops ≡ ops_more old (most - left)
+
+pub within_still : (most : ℕ) (flash : Flash) → IsSound flash → IsWithin most most flash flash
+within_still most flash sound = record {
+  few = omega arith;
+  works = works_within flash flash 0 0 (most - most) (2 ^ 64) (works_still flash) (omega arith) (omega arith);
+  exact = omega (arith, sound.ops);
+}
+
+pub within_step : (most left : ℕ) (wrote : Bool) (new : Job) (a b c : Flash) → IsSound b → IsSound c → 0 < left → IsWithin most left a b → Works b c 1 c.reads → TellsStep wrote b new c → IsWithin most (left - bool_byte wrote) a c
+within_step most left wrote new a b c was sound some h works told =
+    let both = works_then_works a b c (most - left) (2 ^ 64) 1 c.reads h.works works in
+    let few = one_at_most wrote in
+    let one = tells wrote b new c was told in
+    let all : c.ops ≡ ops_more a ((most - left) + bool_byte wrote) = ops_then_ops a b c (most - left) (bool_byte wrote) h.exact one in
+    let sum : (most - left) + bool_byte wrote ≡ most - (left - bool_byte wrote) = omega (arith, few, h.few, some) in
+    let exact : c.ops ≡ ops_more a (most - (left - bool_byte wrote)) = all ∙ ap (ops_more a) sum in
+    record {
+      few = omega (arith, h.few);
+      works = record {
+        after = both.after;
+        counts = record {
+          ops_at_most = omega (arith, exact);
+          ops_at_least = both.counts.ops_at_least;
+          reads_at_most = omega (arith, sound.reads);
+          reads_at_least = both.counts.reads_at_least;
+        };
+      };
+      exact = exact;
+    }
+  where
+    one_at_most : (b : Bool) → bool_byte b ≤ 1
+    one_at_most true = omega arith
+    one_at_most false = omega arith
+
+pub within_stops : (most left : ℕ) (a b c : Flash) (fault : FlashFault) → IsSound c → 0 < left → IsWithin most left a b → Stops b fault c 1 c.reads → Stops a fault c most (2 ^ 64)
+within_stops most left a b c fault sound some h stops =
+    let both = works_then_stops a b c fault (most - left) (2 ^ 64) 1 c.reads h.works stops in
+    record {
+      after = both.after;
+      counts = record {
+        ops_at_most = omega (arith, both.counts.ops_at_most, h.few, some);
+        ops_at_least = both.counts.ops_at_least;
+        reads_at_most = omega (arith, sound.reads);
+        reads_at_least = both.counts.reads_at_least;
+      };
+    }

@@ -108,6 +108,11 @@ CountsStep old before new after =
     ((steps_done new ≡ steps_done old + 1) × (after.ops ≡ ops_more before 1))
     ⊎ ((steps_done new ≡ steps_done old) × (after.ops ≡ before.ops) × (job_done new ≡ true))
 
+-- an operation was done; or none, since nothing was left to do
+abbrev pub TellsStep : Bool → Flash → Job → Flash → Type 0
+TellsStep true before new after = after.ops ≡ ops_more before 1
+TellsStep false before new after = (after.ops ≡ before.ops) × (job_done new ≡ true)
+
 -- a job of this kind, which these levels have room for, with blocks of its own that no run of them has
 pub record IsJobOver (kind : JobKind) (levels : Levels) (job : Job) : Type 0 where
   pub kind_some : kind ≢ Collect

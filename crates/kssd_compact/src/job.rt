@@ -45,7 +45,7 @@ impl Drop for Job {
 }
 
 impl Job {
-    ghost use Rattle.kssd_compact.specs.Job.{goal_of, job_blocks, StandsJob, CanStepJob, job_done, CountsStep, IsSameJob, IsStartedJob, IsMade};
+    ghost use Rattle.kssd_compact.specs.Job.{goal_of, job_blocks, StandsJob, CanStepJob, job_done, job_kind, CountsStep, TellsStep, IsSameJob, IsStartedJob, IsMade};
     ghost use Rattle.kssd_compact.specs.Steps.{Fills, WritesOn, Begins};
     ghost use Rattle.kssd_compact.specs.Source.{StandsSource};
 
@@ -72,26 +72,28 @@ impl Job {
         Ok(Job::begun(kind, inputs, writer, total))
     }
 
-    /// At most one erase or program: the next page of the run, or the block in which it stands.
-    pub fn step<N: Nand>(&mut self, alloc: Global, nand: &mut N) -> Result<(), FlashFault>
+    /// At most one erase or program: the next page of the run, or the block in which it stands. The
+    /// answer is whether there was one.
+    pub fn step<N: Nand>(&mut self, alloc: Global, nand: &mut N) -> Result<bool, FlashFault>
         requires { CanStepJob self.old (N.flash nand.old).blocks (N.flash nand.old).image }
         ensures job { OnOk result ((goal : List entry.Entry) → StandsJob self.old goal (N.flash nand.old).blocks (N.flash nand.old).image → StandsJob self.new goal (N.flash nand.new).blocks (N.flash nand.new).image) }
         ensures same { OnOk result (IsSameJob self.old self.new) }
         ensures counts { OnOk result (CountsStep self.old (N.flash nand.old) self.new (N.flash nand.new)) }
+        ensures wrote { IfOk result (λ wrote. TellsStep wrote (N.flash nand.old) self.new (N.flash nand.new)) }
         ensures outside { (page : ℕ) → has_block (job_blocks self.old) (page / 32) ≡ false → (N.flash nand.new).image page ≡ (N.flash nand.old).image page }
         ensures works { OnOk result (Works (N.flash nand.old) (N.flash nand.new) 1 (N.flash nand.new).reads) }
         ensures err { IfErr result (λ fault. Stops (N.flash nand.old) fault (N.flash nand.new) 1 (N.flash nand.new).reads) }
     {
         if self.writer.waits() {
             self.write(alloc, nand)?;
-            return Ok(());
+            return Ok(true);
         }
         self.fill(alloc, nand)?;
         if self.writer.waits() {
             self.write(alloc, nand)?;
-            return Ok(());
+            return Ok(true);
         }
-        Ok(())
+        Ok(false)
     }
 
     // Feeds entries until a page waits, or the last page is closed.
@@ -135,6 +137,13 @@ impl Job {
         let _done = self.writer.step(alloc, nand)?;
         self.ended = ended;
         Ok(())
+    }
+
+    /// Which kind of job it is.
+    pub fn kind(&self) -> JobKind
+        ensures { result ≡ job_kind self.now }
+    {
+        self.kind
     }
 
     /// Whether the run is written.

@@ -1,1 +1,2 @@
 pub mod AfterCalls
+pub mod Numbering

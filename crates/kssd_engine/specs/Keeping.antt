@@ -1,5 +1,5 @@
 -- What a device on flash is as a machine, and what holds of it at all times.
-use Rattle.std.specs.Prelude.{◌≤◌, ◌+◌, ℕ, max, true, false, refl, Option, Some, None, if◌then◌else◌}
+use Rattle.std.specs.Prelude.{◌≡◌, ◌≤◌, ◌+◌, ℕ, max, true, false, refl, Option, Some, None, if◌then◌else◌}
 use Rattle.std.specs.Option.{ForSome}
 use Rattle.std.proofs.Props.{props}
 use Rattle.kv_nand.specs.Flash.{Flash}
@@ -13,7 +13,9 @@ use Rattle.kssd_machine.specs.Machines.{no_lists, resting}
 use Rattle.kssd_machine.proofs.Standing as standing
 use Rattle.kssd_mounted.specs.declared.mounted.Mounted.{Mounted}
 use Rattle.kssd_mounted.specs.Standing.{Stands, mounted_age, machine_at, takes_down}
+use Rattle.kssd_levels.specs.declared.kind.JobKind.{JobKind}
 use Rattle.kssd_mounted.proofs.OneProof.{Stands-prop}
+use Rattle.kssd_work.specs.Working.{IsDue}
 
 -- a device that is up with what it keeps in memory, or down without
 abbrev pub machine_in : Flash → Option Mounted → Machine
@@ -37,6 +39,11 @@ IsKept-prop flash mounted age = Prim.hlevel (props, IsWhole-prop, Stands-prop)
 pub machine_in-sound : (flash : Flash) (mounted : Option Mounted) (age : ℕ) → flash_words.IsSound flash → IsKept flash mounted age → IsSound (machine_in flash mounted)
 machine_in-sound flash None age sound kept = standing.sound flash false no_lists sound kept.whole refl
 machine_in-sound flash (Some m) age sound kept = standing.sound flash true m.changes sound kept.whole (kept.stands m refl).four
+
+-- the job that is due: none while the device is down
+abbrev pub IsDueIn : Option Mounted → Option JobKind → Type 0
+IsDueIn None job = job ≡ None
+IsDueIn (Some m) job = IsDue m job
 
 -- what a device keeps in memory after a fault
 abbrev pub mounted_after : DeviceFault → Option Mounted → Option Mounted

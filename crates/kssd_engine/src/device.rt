@@ -1,20 +1,24 @@
 // The calls of a device, over the flash that it owns.
 ghost use Rattle.std.specs.Prelude.{◌≡◌, ◌≤◌, ◌+◌, ◌^◌, ℕ};
 ghost use Rattle.kssd_engine.specs.Keeping.{machine_in, machine_in-sound};
+ghost use Rattle.kssd_engine.specs.Plans.{asked_by};
 
 use crate::Ssd;
 use crate::falling::{age_after, fall};
-use crate::numbers::{END_RISE, set_rise};
+use crate::numbers::{END_RISE, WORK_RISE, set_rise};
+use crate::working::work_on;
 use kssd_layout::Layout;
 use kv_base::{Key, Pairs, Value};
 use kv_device::{Device, DeviceFault, TxId};
-use kv_nand::Nand;
+use kv_nand::PlannedNand;
 use std::alloc::Global;
 
-impl<N: Nand> Device for Ssd<N> {
+impl<N: PlannedNand> Device for Ssd<N> {
     ghost machine = { λ ssd. machine_in (N.flash ssd.nand) ssd.mounted };
 
     ghost age = { λ ssd. ssd.age };
+
+    ghost asked = { λ ssd. asked_by (N.planned ssd.nand) ssd.operations };
 
     ghost sound = { λ ssd. machine_in-sound (N.flash ssd.nand) ssd.mounted ssd.age (N.sound ssd.nand) ssd.kept };
 
@@ -159,10 +163,21 @@ impl<N: Nand> Device for Ssd<N> {
         }
     }
 
-    /// Nothing is due between calls, so it does nothing.
-    fn work(&mut self, _alloc: Global, _operations: u32) -> Result<(), DeviceFault> {
-        match &self.mounted {
-            Some(_) => Ok(()),
+    /// Goes on with the job that is due, with at most so many operations.
+    fn work(&mut self, alloc: Global, operations: u32) -> Result<(), DeviceFault> {
+        self.operations = operations;
+        match &mut self.mounted {
+            Some(mounted) => match work_on(alloc, &mut self.nand, mounted, operations) {
+                Ok(()) => {
+                    self.age = age_after(&self.mounted, self.age, WORK_RISE);
+                    Ok(())
+                }
+                Err(fault) => {
+                    fall(&mut self.mounted, &fault);
+                    self.age = age_after(&self.mounted, self.age, WORK_RISE);
+                    Err(fault)
+                }
+            },
             None => Err(DeviceFault::Off),
         }
     }

@@ -6,6 +6,7 @@ mod falling;
 mod numbers;
 mod planned;
 mod ssd;
+mod working;
 
 pub use planned::{operation_of, outcome_of};
 pub use ssd::Ssd;

@@ -7,6 +7,9 @@ use kv_base::Value;
 /// By how much an end may raise them.
 pub const END_RISE: u64 = 1 << 10;
 
+/// By how much the work between calls may raise them.
+pub const WORK_RISE: u64 = 1 << 12;
+
 /// By how much setting a value in a page may raise them.
 const PAGE_RISE: u64 = 1 << 11;
 

@@ -1,18 +1,18 @@
 // A device of objects on flash.
-ghost use Rattle.std.specs.Prelude.{◌≡◌, ◌≤◌, ◌+◌, ◌^◌, true, None, IfOk, IfErr};
+ghost use Rattle.std.specs.Prelude.{◌≡◌, ◌≤◌, ◌+◌, ◌^◌, true, None, IfOk, OnOk, IfErr};
 ghost use Rattle.std.specs.FinMap as objects;
 ghost use Rattle.kv_device.specs.Machine.{down, restarted};
 ghost use Rattle.kssd_image.specs.Stages.{objects_in};
 ghost use Rattle.kssd_image.specs.Whole.{IsWhole, Sound, age_in};
 ghost use Rattle.kssd_machine.specs.Machines.{resting};
 ghost use Rattle.kssd_mounted.specs.Standing.{Leaves};
-ghost use Rattle.kssd_mount.specs.Mounting.{FailsMounting};
-ghost use Rattle.kssd_engine.specs.Keeping.{IsKept, IsKept-prop};
+ghost use Rattle.kssd_mount.specs.Mounting.{FailsMounting, IsSpared};
+ghost use Rattle.kssd_engine.specs.Keeping.{IsKept, IsKept-prop, IsDueIn};
 
 use kssd_levels::JobKind;
 use kssd_mounted::Mounted;
 use kv_device::Device;
-use kv_nand::{MountFault, Nand};
+use kv_nand::{MountFault, Nand, PlannedNand};
 use std::alloc::Global;
 
 /// A device of objects with transactions on a flash, which it owns. While it is up it keeps its
@@ -23,27 +23,32 @@ pub struct Ssd<N: Nand> {
     pub(crate) mounted: Option<Mounted>,
     /// No number of eight bytes in the newest anchor and in the pages of its log is greater.
     pub(crate) age: u64,
+    /// How many operations the last work was asked for.
+    pub(crate) operations: u32,
     pub(crate) ghost kept: { IsKept (N.flash nand) mounted age } by { IsKept-prop (N.flash nand) mounted age },
 }
 
-impl<N: Nand> Ssd<N> {
-    /// Mounts the device on a flash of 256 to 2,048 blocks whose image is sound. It is up then with
-    /// the objects of the image, and nothing is pending. Where the block in which the newest anchor's
-    /// log begins is Erased, the flash is only read; else the log is merged with the runs into one
-    /// run.
+impl<N: PlannedNand> Ssd<N> {
+    /// Mounts the device on a flash of 256 to 2,048 blocks, whatever its image is. Where that is sound
+    /// the device is up then with the objects of the image, and nothing is pending; and where the block
+    /// in which the newest anchor's log begins is Erased, the flash is only read, else the log is merged
+    /// with the runs into one run.
     ///
     /// # Errors
     ///
     /// `Off` where there is no power or it was cut in this call, `Failed` where an operation failed,
     /// and `Memory`. `Damaged` names the first damage of an image that isn't sound. The flash comes
-    /// back; it holds the same objects, and a mount takes it again.
+    /// back with the same objects. An image that isn't sound is as it was, and a mount takes a sound one
+    /// again.
     pub fn mount(alloc: Global, nand: N) -> Result<Ssd<N>, (N, MountFault)>
         requires blocks { (256 ≤ (N.flash nand).blocks) × ((N.flash nand).blocks ≤ 2048) }
-        requires sound { Sound (N.flash nand).blocks (N.flash nand).image }
+        ensures sound { OnOk result (Sound (N.flash nand).blocks (N.flash nand).image) }
         ensures ok { IfOk result (λ ssd. ⟦<Ssd<N> as Device>⟧.machine ssd ≡ restarted (resting (N.flash nand))) }
         ensures age { IfOk result (λ ssd. ⟦<Ssd<N> as Device>⟧.age ssd ≤ age_in (N.flash nand).image + 2 ^ 20) }
+        ensures low { IfOk result (λ ssd. ⟦<Ssd<N> as Device>⟧.age ssd ≤ 2 ^ 62 + 2 ^ 21) }
         ensures err { IfErr result (λ back. FailsMounting (N.flash nand) back.1 (N.flash back.0)) }
-        ensures left { IfErr result (λ back. Leaves (N.flash nand) (age_in (N.flash nand).image + 2 ^ 20) (N.flash back.0)) }
+        ensures spared { IfErr result (λ back. IsSpared (N.flash nand) (N.flash back.0)) }
+        ensures left { IfErr result (λ back. Sound (N.flash nand).blocks (N.flash nand).image → Leaves (N.flash nand) (age_in (N.flash nand).image + 2 ^ 20) (N.flash back.0)) }
         ensures objects { IfErr result (λ back. objects_in (N.flash back.0).image ≡ objects_in (N.flash nand).image) }
     {
         let mut nand = nand;
@@ -54,6 +59,7 @@ impl<N: Nand> Ssd<N> {
                     nand,
                     mounted: Some(mounted),
                     age,
+                    operations: 0,
                 })
             }
             Err(fault) => Err((nand, fault)),
@@ -71,11 +77,14 @@ impl<N: Nand> Ssd<N> {
         self.nand
     }
 
-    /// The job that is due between calls. There is none: what a call needs it does itself.
+    /// The job that is due between calls.
     pub fn due(&self) -> Option<JobKind>
-        ensures { result ≡ None }
+        ensures { IsDueIn self.now.mounted result }
     {
-        None
+        match &self.mounted {
+            Some(mounted) => kssd_work::due(mounted),
+            None => None,
+        }
     }
 
     /// How many stable objects there are. The device is up.

@@ -27,6 +27,11 @@ abbrev pub EntryGives : {X Y : Type 0} → (X → Y) → Result X EntryFault →
 EntryGives view (Ok x) read = read ≡ Ok (view x)
 EntryGives view (Err e) read = EntryFails e read
 
+-- what a function returned, seen by view, is just what reading gives
+abbrev pub EntryIs : {X Y : Type 0} → (X → Y) → Result X EntryFault → Result Y EntryFault → Type 0
+EntryIs view (Ok x) read = read ≡ Ok (view x)
+EntryIs view (Err e) read = read ≡ Err e
+
 abbrev pub PageFails : {Y : Type 0} → PageFault → Result Y PageFault → Type 0
 PageFails page_faults.Memory read = Unit {0}
 PageFails fault read = read ≡ Err fault

@@ -1,4 +1,3 @@
 pub mod Standing
-pub mod Mapping
 pub mod Costs
-pub mod Following
+pub mod Working

@@ -1,59 +1,66 @@
 -- What an index and the parts of one say of an image.
-use Rattle.std.specs.Prelude.{◌≡◌, ◌≤◌, ◌+◌, ◌*◌, ◌/◌, ℕ, Bool, true, List, [], length, Some}
-use Rattle.kv_nand.specs.Flash.{Image, Erased, MayProgram}
+use Rattle.std.specs.Prelude.{◌≡◌, ◌≤◌, ◌+◌, ◌/◌, ℕ, Bool, true, List, [], length, Option, None, Some}
+use Rattle.kv_nand.specs.Flash.{Image, Erased}
 use Rattle.kssd_entry.specs.declared.entry.Entry.{Entry}
 use Rattle.kssd_model.specs.declared.anchor.Anchor.{Anchor}
-use Rattle.kssd_model.specs.Anchors.{newest_in}
+use Rattle.kssd_model.specs.Rising.{merged}
 use Rattle.kssd_model.specs.Groups.{rest_from, turn_count}
-use Rattle.kssd_levels.specs.declared.levels.Levels.{Levels}
-use Rattle.kssd_levels.specs.Levels.{infos_of, StandLevels}
 use Rattle.kssd_log.specs.declared.place.Place.{Place}
-use Rattle.kssd_image.specs.Stages.{log_map}
 use Rattle.kssd_image.specs.Damages.{IsAnchorFit}
-use Rattle.kssd_image.specs.Whole.{IsIndexOf, log_of, age_by}
+use Rattle.kssd_image.specs.Whole.{log_of, age_by}
+use Rattle.kssd_compact.specs.declared.job.Job.{Job}
+use Rattle.kssd_compact.specs.Job.{job_kind}
+use Rattle.kssd_root.specs.declared.root.Root.{Root}
+use Rattle.kssd_root.specs.Standing.{IsAnchored, AreRuns, IsRoot, EndsAt, table_of}
+use Rattle.kssd_root.specs.Following.{with_log, IsSplit}
+use Rattle.kssd_root.specs.UnderWay.{IsUnderWay}
+use Rattle.kssd_index.specs.declared.index.Older.{Older}
 use Rattle.kssd_index.specs.declared.index.Index.{Index}
-use Rattle.kssd_index.specs.declared.root.Root.{Root}
 use Rattle.kssd_index.specs.declared.parts.IndexParts.{IndexParts}
 
--- ---- the parts of the standing fact
+-- ---- the older table
 
--- the anchor in this page is the newest, and what it names is what a mount demands, values and the limit on numbers apart
-pub record IsAnchored (page : ℕ) (anchor : Anchor) (blocks : ℕ) (image : Image) : Type 0 where
-  pub newest : newest_in image ≡ Some (record { page = page; anchor = anchor })
-  pub index : IsIndexOf blocks image anchor
+-- the entries of the older table, if there is one
+abbrev pub older_entries : Option Older → List Entry
+older_entries None = []
+older_entries (Some older) = older.table
 
--- the runs are those that the anchor names, and each of them stands
-pub record AreRuns (levels : Levels) (anchor : Anchor) (blocks : ℕ) (image : Image) : Type 0 where
-  pub named : infos_of levels ≡ anchor.runs
-  pub stand : StandLevels levels blocks image
+-- the anchor with the part of its log behind the older table alone, which is the whole log where there is none
+abbrev pub later_anchor : Anchor → Option Older → Anchor
+later_anchor anchor None = anchor
+later_anchor anchor (Some older) = with_log anchor older.log_block older.log_seq
 
--- a root stands in an image of so many blocks: its anchor is the newest, and its runs are the anchor's
-pub record IsRoot (root : Root) (blocks : ℕ) (image : Image) : Type 0 where
-  pub device : root.layout.blocks ≡ blocks
-  pub anchored : IsAnchored root.page root.anchor blocks image
-  pub runs : AreRuns root.levels root.anchor blocks image
+abbrev pub later_of : Index → Anchor
+later_of index = later_anchor index.root.anchor index.older
 
--- the anchor's log ends at this place behind its last whole group, and all later pages of the place's block are Erased; with the blocks that are left it fills 8
-pub record EndsAt (place : Place) (anchor : Anchor) (image : Image) : Type 0 where
+-- the anchor's log ends at this place behind its last whole group; with the blocks that are left it fills at most 16
+pub record EndsWithin (place : Place) (anchor : Anchor) (image : Image) : Type 0 where
   pub page : (log_of image anchor).end ≡ place.page
   pub number : (log_of image anchor).next ≡ place.seq
   pub whole : rest_from [] (log_of image anchor).pages ≡ []
-  pub blocks : turn_count (log_of image anchor).pages + place.blocks ≡ 8
-  pub free : MayProgram image place.page
+  pub blocks : turn_count (log_of image anchor).pages + place.blocks ≤ 16
 
--- for each key of the anchor's log its newest entry
-abbrev pub table_of : Image → Anchor → List Entry
-table_of image anchor = log_map image (32 * anchor.log_block) anchor.log_seq
+-- ---- the job under way
+
+-- a job that is under way stands over the levels of this root
+abbrev pub StandsOver : Option Job → Root → ℕ → Image → Type 0
+StandsOver None root blocks image = Unit {0}
+StandsOver (Some job) root blocks image = IsUnderWay (job_kind job) job [] root blocks image
 
 -- ---- the standing fact
 
--- an index stands in an image of so many blocks: its root does, the anchor's log ends at the ring's place, the table has the newest entry of each key of that log and at most 1,024, and no number is above its age
+-- an index stands in an image of so many blocks: its root does, the anchor's log ends at the ring's place, the older table has the newest entry of each key of its earlier part and the table that of each key of the later one, at most 1,024 each, no number is above its age, and a job that is under way stands
 pub record IsIndex (index : Index) (blocks : ℕ) (image : Image) : Type 0 where
   pub root : IsRoot index.root blocks image
-  pub log : EndsAt index.ring index.root.anchor image
-  pub table : index.table ≡ table_of image index.root.anchor
+  pub split : IsSplit (older_entries index.older) (later_of index) index.root blocks image
+  pub log : EndsAt index.ring (later_of index) image
+  pub long : EndsWithin index.ring index.root.anchor image
+  pub left : 1 ≤ index.ring.blocks
+  pub table : index.table ≡ table_of image (later_of index)
   pub few : length index.table ≤ 1024
+  pub older_few : length (older_entries index.older) ≤ 1024
   pub numbers : age_by image index.root.anchor ≤ index.age
+  pub job : StandsOver index.job index.root blocks image
 
 -- at least the greatest number of eight bytes in the newest anchor and in the pages of its log
 abbrev pub index_age : Index → ℕ
@@ -64,7 +71,7 @@ abbrev pub index_ring : Index → Place
 index_ring index = index.ring
 
 abbrev pub index_table : Index → List Entry
-index_table index = index.table
+index_table index = merged index.table (older_entries index.older)
 
 -- the parts are those of the index of an image: its newest anchor, the runs of that, its log's newest entries, and where the log ends
 pub record AreParts (parts : IndexParts) (blocks : ℕ) (image : Image) : Type 0 where

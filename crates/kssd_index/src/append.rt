@@ -1,5 +1,5 @@
 // Adding a group of entries.
-ghost use Rattle.std.specs.Prelude.{◌≡◌, ◌≤◌, true, length, OnOk};
+ghost use Rattle.std.specs.Prelude.{◌≡◌, ◌≤◌, ◌+◌, true, length, OnOk};
 ghost use Rattle.kssd_model.specs.Rising.{is_rising, merged};
 
 use crate::Index;
@@ -33,10 +33,10 @@ fn len_with(table: &Table, entries: &Entries) -> u32
     len
 }
 
-// Puts entries into a table, which has at most 1,024 with them.
-fn put_all(table: &mut Table, alloc: Global, entries: &Entries) -> Result<(), Memory>
+// Puts entries into a table, which has room for all of them.
+pub fn put_all(table: &mut Table, alloc: Global, entries: &Entries) -> Result<(), Memory>
     requires rising { is_rising entries.now ≡ true }
-    requires room { length (merged entries.now table.old) ≤ 1024 }
+    requires room { length entries.now + length table.old ≤ 2048 }
     ensures { OnOk result (table.new ≡ merged entries.now table.old) }
 {
     for entry in entries.as_slice() {
@@ -53,7 +53,7 @@ impl Index {
     ghost use Rattle.kssd_image.specs.Stages.{shown_in};
     ghost use Rattle.kssd_image.specs.Whole.{pages_named, age_in};
     ghost use Rattle.kssd_index.specs.Standing.{IsIndex, index_age};
-    ghost use Rattle.kssd_index.specs.Mapping.{with_entries, SameValues, IsBeforeOrAfter};
+    ghost use Rattle.kssd_root.specs.Mapping.{with_entries, SameValues, IsBeforeOrAfter};
     ghost use Rattle.kssd_index.specs.Costs.{has_place_in, group_cost};
 
     /// Whether a group of these entries has place in the table, which has at most 1,024 entries,

@@ -7,8 +7,7 @@ mod index;
 mod parts;
 mod place;
 mod reading;
-mod root;
-mod running;
+mod working;
 
-pub use index::Index;
+pub use index::{Index, Older};
 pub use parts::IndexParts;

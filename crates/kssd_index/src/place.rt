@@ -3,11 +3,11 @@ ghost use Rattle.std.specs.Prelude.{◌≡◌, ◌-◌, max};
 ghost use Rattle.std.specs.List.{AllByRecursion};
 ghost use Rattle.kssd_entry.specs.Spelling.{FitsEntry};
 
-use crate::root::Root;
-use crate::{Index, IndexParts};
+use crate::{Index, IndexParts, Older};
 use kssd_entry::Entries;
 use kssd_log::Ring;
 use kssd_model::Anchor;
+use kssd_root::Root;
 use kssd_table::Table;
 use kv_base::Memory;
 use kv_nand::{FlashFault, Nand};
@@ -38,13 +38,15 @@ fn read_sizes(entries: &Entries)
 }
 
 impl Index {
-    ghost use Rattle.std.specs.Prelude.{◌≡◌, ◌≤◌, ◌<◌, ◌+◌, ◌^◌, ℕ, true, length, IfOk, OnOk, OnErr, IfErr};
+    ghost use Rattle.std.specs.Prelude.{◌≡◌, ◌≤◌, ◌<◌, ◌+◌, ◌^◌, ℕ, [], true, None, length, IfOk, OnOk, OnErr, IfErr};
     ghost use Rattle.kv_nand.specs.Flash.{Image};
     ghost use Rattle.kv_nand.specs.Working.{Works, Stops};
     ghost use Rattle.kssd_image.specs.Whole.{age_in};
     ghost use Rattle.kssd_index.specs.Standing.{IsIndex, AreParts, IsFit, is_clean, index_age};
-    ghost use Rattle.kssd_index.specs.Mapping.{IsKept};
-    ghost use Rattle.kssd_index.specs.Costs.{has_place_in, most_place_cost};
+    ghost use Rattle.kssd_root.specs.Mapping.{IsKept};
+    ghost use Rattle.kssd_root.specs.Costs.{most_place_cost};
+    ghost use Rattle.kssd_log.specs.Ring.{room_of};
+    ghost use Rattle.kssd_index.specs.Costs.{has_place_in, flush_cost, place_cost};
 
     /// The index of these parts, where the block in which the log begins is clean. Nothing is wrong
     /// with the anchor's own fields.
@@ -65,8 +67,10 @@ impl Index {
                 levels: parts.levels,
             },
             table,
+            older: None,
             ring,
             age,
+            job: None,
         })
     }
 
@@ -99,12 +103,66 @@ impl Index {
         Ok(Index {
             root,
             table,
+            older: None,
             ring,
             age,
+            job: None,
         })
     }
 
-    /// Makes place for a group of these entries. The visible entries stay, also after a fault.
+    // Writes the older table as a run, after merges where level 0 has no place for it. The table and
+    // its part of the log stay.
+    fn flush_older<N: Nand>(&mut self, alloc: Global, nand: &mut N) -> Result<(), FlashFault>
+        requires stands { IsIndex self.old (N.flash nand.old).blocks (N.flash nand.old).image }
+        requires number { index_age self.old + 2 ^ 20 ≤ 2 ^ 63 }
+        ensures stands { OnOk result (IsIndex self.new (N.flash nand.new).blocks (N.flash nand.new).image) }
+        ensures gone { OnOk result (self.new.older ≡ None) }
+        ensures kept { IsKept (N.flash nand.old).blocks (N.flash nand.old).image (N.flash nand.new).image }
+        ensures aged { age_in (N.flash nand.new).image ≤ index_age self.new }
+        ensures ages { index_age self.new ≤ index_age self.old + 3 }
+        ensures works { OnOk result (Works (N.flash nand.old) (N.flash nand.new) (flush_cost self.old.older (N.flash nand.old).blocks) (2 ^ 64)) }
+        ensures stops { IfErr result (λ fault. Stops (N.flash nand.old) fault (N.flash nand.new) (flush_cost self.old.older (N.flash nand.old).blocks) (2 ^ 64)) }
+    {
+        let Some(older) = self.older.take() else {
+            return Ok(());
+        };
+        self.job = None;
+        self.age += MOST_ANCHORS;
+        self.root.make_room(alloc, nand)?;
+        self.root
+            .flush_older(alloc, nand, &older.table, older.log_block, older.log_seq)?;
+        Ok(())
+    }
+
+    // Freezes the table, where there is no older one: the log turns, and a new table begins.
+    fn freeze<N: Nand>(&mut self, alloc: Global, nand: &mut N) -> Result<(), FlashFault>
+        requires stands { IsIndex self.old (N.flash nand.old).blocks (N.flash nand.old).image }
+        requires none { self.old.older ≡ None }
+        requires number { index_age self.old + 2 ^ 19 ≤ 2 ^ 63 }
+        ensures stands { OnOk result (IsIndex self.new (N.flash nand.new).blocks (N.flash nand.new).image) }
+        ensures empty { OnOk result (self.new.table ≡ []) }
+        ensures room { OnOk result (room_of self.new.ring ≡ 248) }
+        ensures kept { IsKept (N.flash nand.old).blocks (N.flash nand.old).image (N.flash nand.new).image }
+        ensures aged { age_in (N.flash nand.new).image ≤ index_age self.new }
+        ensures ages { index_age self.new ≤ index_age self.old + 1 }
+        ensures works { OnOk result (Works (N.flash nand.old) (N.flash nand.new) 2 0) }
+        ensures stops { IfErr result (λ fault. Stops (N.flash nand.old) fault (N.flash nand.new) 2 0) }
+    {
+        let empty = Table::new(alloc)?;
+        self.age += 1;
+        self.ring.turn_anew(alloc, nand)?;
+        let table = mem::replace(&mut self.table, empty).freeze();
+        self.older = Some(Older {
+            table,
+            log_block: self.ring.block(),
+            log_seq: self.ring.seq(),
+        });
+        Ok(())
+    }
+
+    /// Makes place for a group of these entries: the table is frozen, the log turns, and a new table
+    /// begins. Where a frozen table is there already, it is written as a run before. The visible
+    /// entries stay, also after a fault.
     pub fn make_place<N: Nand>(
         &mut self,
         alloc: Global,
@@ -119,17 +177,13 @@ impl Index {
         ensures kept { IsKept (N.flash nand.old).blocks (N.flash nand.old).image (N.flash nand.new).image }
         ensures aged { age_in (N.flash nand.new).image ≤ index_age self.new }
         ensures ages { index_age self.new ≤ index_age self.old + 2 ^ 8 }
+        ensures few { (N.flash nand.new).ops ≤ (N.flash nand.old).ops + place_cost self.old (N.flash nand.old).blocks }
         ensures works { OnOk result (Works (N.flash nand.old) (N.flash nand.new) (most_place_cost (N.flash nand.old).blocks) (2 ^ 64)) }
         ensures stops { IfErr result (λ fault. Stops (N.flash nand.old) fault (N.flash nand.new) (most_place_cost (N.flash nand.old).blocks) (2 ^ 64)) }
     {
         read_sizes(entries);
-        let empty = Table::new(alloc)?;
-        let table = mem::replace(&mut self.table, empty).freeze();
-        self.age += MOST_ANCHORS;
-        let last_block = self.ring.block();
-        let next_seq = self.ring.seq();
-        self.ring = self.root.flush(alloc, nand, &table, last_block, next_seq)?;
-        self.age = greatest_number(&self.root.anchor, self.ring.seq());
+        self.flush_older(alloc, nand)?;
+        self.freeze(alloc, nand)?;
         Ok(())
     }
 }

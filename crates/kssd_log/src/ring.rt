@@ -138,4 +138,25 @@ impl Ring {
     {
         self.place.turn(alloc, nand)
     }
+
+    /// Turns, and may take 8 blocks again, the first of which is the new one. There a log without
+    /// groups begins, which ends where each longer log ends: what is added belongs to both. The
+    /// groups are as before, also after a fault.
+    pub fn turn_anew<N: Nand>(&mut self, alloc: Global, nand: &mut N) -> Result<(), FlashFault>
+        requires place { IsPlace (N.flash nand.old) self.old }
+        requires number { self.old.seq < 2 ^ 63 }
+        ensures next { OnOk result (self.new ≡ begun (next_block (self.old.page / 32)) (self.old.seq + 1)) }
+        ensures place { OnOk result (IsPlace (N.flash nand.new) self.new) }
+        ensures empty { OnOk result (HasLog (N.flash nand.new).image self.new.page self.new.seq [] [] 0 self.new.page self.new.seq) }
+        ensures ok { OnOk result ((rest : List Entry) → Carries 1 (N.flash nand.old).image self.old rest (N.flash nand.new).image self.new rest) }
+        ensures err { OnErr result ((rest : List Entry) → KeepsGroups 1 0 (N.flash nand.old).image self.old rest (N.flash nand.new).image) }
+        ensures outside { StaysOutside (N.flash nand.old).image (N.flash nand.new).image }
+        ensures works { OnOk result (Works (N.flash nand.old) (N.flash nand.new) 2 0) }
+        ensures exact { OnOk result ((N.flash nand.new).ops ≡ ops_more (N.flash nand.old) 2) }
+        ensures stops { IfErr result (λ fault. Stops (N.flash nand.old) fault (N.flash nand.new) 2 0) }
+    {
+        self.place.turn(alloc, nand)?;
+        self.place.blocks = RING_BLOCKS;
+        Ok(())
+    }
 }

@@ -1,4 +1,5 @@
 pub mod Naming
+pub mod Holding
 pub mod Standing
 pub mod Falling
 pub mod Transacting

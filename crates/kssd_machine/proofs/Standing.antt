@@ -25,6 +25,7 @@ use Rattle.kssd_tx.specs.Lists.{Transactions}
 use Rattle.kssd_machine.specs.Names.{names, times}
 use Rattle.kssd_machine.specs.Machines.{pending_in, machine_of, no_lists, resting, SameCounts, ArePendingSame}
 use Rattle.kssd_machine.proofs.Naming.{pending_first, each_named}
+use Rattle.kssd_machine.proofs.Holding.{holds_bytes}
 
 -- ---- changes
 
@@ -104,4 +105,5 @@ sound flash up lists f whole four = record {
   cuts = f.cuts;
   faults = f.faults;
   four = four_open flash.image up lists four;
+  held = holds_bytes flash.blocks flash.image f.blocks (bytes_of flash f) whole;
 }

@@ -3,3 +3,4 @@ pub mod Numbers
 pub mod Opening
 pub mod Settling
 pub mod Failing
+pub mod Sparing

@@ -10,7 +10,7 @@ use Rattle.kssd_model.specs.Anchors.{newest_in}
 use Rattle.kssd_image.specs.AnchorForm.{HasLowNumbers}
 use Rattle.kssd_image.specs.Whole.{log_of, IsLogWhole, Sound, age_in}
 use Rattle.kssd_image.proofs.OneDamage.{clear_from_sound}
-use Rattle.kssd_index.proofs.Anchored.{age_is}
+use Rattle.kssd_root.proofs.Anchored.{age_is}
 
 -- at most 16 turn pages
 few_turns : (turns : ℕ) (xs : List LogPage) → turns ≤ 16 → WithinBlocks turns xs → turns + turn_count xs ≤ 16
@@ -53,6 +53,15 @@ log_seq_low anchor low = omega (arith, low)
 
 pub far_from_end : (blocks : ℕ) (image : Image) (page : ℕ) (anchor : Anchor) → HasBytes image → Sound blocks image → newest_in image ≡ Some (record { page = page; anchor = anchor }) → age_in image + 2 ^ 20 ≤ 2 ^ 63
 far_from_end blocks image page anchor has sound newest =
+    let clear = clear_from_sound blocks image (record { page = page; anchor = anchor }) newest sound in
+    let next = few_numbers image anchor has clear.log in
+    let seq = log_seq_low anchor clear.anchor.numbers in
+    let age = age_is page anchor image newest in
+    omega (arith, clear.anchor.numbers)
+
+-- and at most so great
+pub low_age : (blocks : ℕ) (image : Image) (page : ℕ) (anchor : Anchor) → HasBytes image → Sound blocks image → newest_in image ≡ Some (record { page = page; anchor = anchor }) → age_in image ≤ 2 ^ 62 + 2 ^ 10
+low_age blocks image page anchor has sound newest =
     let clear = clear_from_sound blocks image (record { page = page; anchor = anchor }) newest sound in
     let next = few_numbers image anchor has clear.log in
     let seq = log_seq_low anchor clear.anchor.numbers in

@@ -1,5 +1,5 @@
 -- A device whose index was opened or settled.
-use Rattle.std.proofs.Common.{◌≡◌, ◌∙◌, ℕ, ◌+◌, ◌≤◌, ◌^◌, Bool, true, List, length, sym, ap, subst, arith, inl, inr}
+use Rattle.std.proofs.Common.{◌≡◌, ◌∙◌, ℕ, ◌+◌, ◌≤◌, ◌^◌, Bool, true, List, length, None, sym, ap, subst, arith, inl, inr}
 use Rattle.kv_nand.specs.Flash.{Flash, Image}
 use Rattle.kv_nand.specs.Working.{worked, Stops, StopsBy}
 use Rattle.kv_nand.specs.declared.fault.FlashFault.{FlashFault}
@@ -17,10 +17,11 @@ use Rattle.kssd_tx.specs.Lists.{Transactions}
 use Rattle.kssd_values.specs.Places.{IsValueBlock}
 use Rattle.kssd_values.specs.Blocks.{device_of}
 use Rattle.kssd_index.specs.declared.index.Index.{Index}
-use Rattle.kssd_index.specs.Standing.{IsAnchored, AreRuns, IsIndex}
+use Rattle.kssd_root.specs.Standing.{IsAnchored, AreRuns}
+use Rattle.kssd_index.specs.Standing.{IsIndex}
 use Rattle.kssd_index.specs.Standing as index
-use Rattle.kssd_index.specs.Mapping.{IsKept}
-use Rattle.kssd_index.proofs.Anchored.{anchor_is}
+use Rattle.kssd_root.specs.Mapping.{IsKept}
+use Rattle.kssd_root.proofs.Anchored.{anchor_is}
 use Rattle.kssd_machine.specs.Names.{are_rising, are_valued}
 use Rattle.kssd_machine.specs.Machines.{machine_of, no_lists, resting, SameCounts}
 use Rattle.kssd_machine.proofs.Standing.{stays, reading_stays, mounted}
@@ -77,7 +78,7 @@ has_block blocks image parts h =
     (λ block in_values. h.values.states block (subst (λ (n : ℕ). IsValueBlock n block) device in_values))
 
 pub stands : (old new : Flash) (parts : Parts) (index : Index) (changes : Transactions) → 256 ≤ old.blocks → old.blocks ≤ 2048 → old.powered ≡ true → AreParts old.blocks old.image parts → changes ≡ no_lists → IsSettled parts.clean old new → new ≡ worked old new
-    → IsIndex index new.blocks new.image → Stands (record { index = index; values = parts.values; changes = changes; keys = parts.keys; pages = parts.pages }) new
+    → IsIndex index new.blocks new.image → Stands (record { index = index; values = parts.values; changes = changes; collection = None; keys = parts.keys; pages = parts.pages }) new
 stands old new parts index changes least most on h none settled worked_ standing =
     let same : new.blocks ≡ old.blocks = ap (λ (f : Flash). f.blocks) worked_ in
     let device : device_of parts.values ≡ old.blocks = h.values.device in
@@ -89,7 +90,7 @@ stands old new parts index changes least most on h none settled worked_ standing
       index = standing;
       device = device ∙ sym same;
       fills = fills_none parts.values (pages_named (shown_in old.image)) new.image (λ block in_values. h.values.states block (subst (λ (n : ℕ). IsValueBlock n block) device in_values)) h.values.target;
-      idle = h.values.target;
+      collecting = h.values.target;
       four = ap length none;
       rising = ap are_rising none;
       valued = ap (are_valued new.blocks new.image) none;

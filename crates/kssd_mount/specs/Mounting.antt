@@ -1,5 +1,5 @@
 -- What a mount leaves where it fails, and where it programs and erases nothing.
-use Rattle.std.specs.Prelude.{◌≡◌, ◌⊎◌, ◌≤◌, ◌+◌, ◌/◌, ℕ, Bool, true, false}
+use Rattle.std.specs.Prelude.{◌≡◌, ◌⊎◌, ◌≤◌, ◌+◌, ◌/◌, ◌^◌, ℕ, Bool, true, false}
 use Rattle.kv_nand.specs.declared.fault.MountFault.{MountFault}
 use Rattle.kv_nand.specs.declared.fault.MountFault.TheVariants as mount
 use Rattle.kv_nand.specs.Flash.{Flash, Image, Erased}
@@ -10,8 +10,8 @@ use Rattle.kv_device.specs.Calls.{Falls}
 use Rattle.kssd_model.specs.OnlyReading.{OnlyReads}
 use Rattle.kssd_image.specs.Stages.{the_anchor}
 use Rattle.kssd_image.specs.Damages.{IsDamage}
-use Rattle.kssd_image.specs.Whole.{age_in}
-use Rattle.kssd_index.specs.Mapping.{IsKept}
+use Rattle.kssd_image.specs.Whole.{Sound, age_in}
+use Rattle.kssd_root.specs.Mapping.{IsKept}
 use Rattle.kssd_machine.specs.Machines.{resting}
 
 -- the device that was about to be up is down by this fault
@@ -40,3 +40,9 @@ pub record IsSettled (clean : Bool) (old new : Flash) : Type 0 where
   pub kept : IsKept old.blocks old.image new.image
   pub age : age_in new.image ≤ age_in old.image + 3
   pub idle : clean ≡ true → IsOnlyRead old new
+
+-- whatever the image was: the numbers rose by little, and where it isn't sound, nothing was programmed or erased
+pub record IsSpared (old new : Flash) : Type 0 where
+  pub blocks : new.blocks ≡ old.blocks
+  pub age : age_in new.image ≤ age_in old.image + 2 ^ 20
+  pub unsound : (Sound old.blocks old.image → ⊥) → IsOnlyRead old new

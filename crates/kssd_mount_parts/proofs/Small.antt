@@ -14,8 +14,8 @@ use Rattle.kssd_frames.proofs.ShownLaws.{all_merged}
 use Rattle.kssd_frames.proofs.Changes.{block_left}
 use Rattle.kssd_index.specs.declared.index.Index.{Index}
 use Rattle.kssd_index.specs.Standing.{IsIndex, index_age}
-use Rattle.kssd_index.specs.Mapping.{with_entries, IsKept, IsBeforeOrAfter}
-use Rattle.kssd_index.proofs.Counting.{merged_few}
+use Rattle.kssd_root.specs.Mapping.{with_entries, IsKept, IsBeforeOrAfter}
+use Rattle.kssd_root.proofs.Counting.{merged_few}
 use Rattle.kssd_recover.specs.Formatting.{IsFresh}
 use Rattle.kssd_mounted.specs.declared.mounted.Mounted.{Mounted}
 use Rattle.kssd_mounted.specs.Standing.{Stands, Leaves, mounted_age}
@@ -82,6 +82,18 @@ values_whole blocks image es least none = record {
 pub sound : (flash : Flash) (steps : ℕ) → IsTaken flash steps → steps < 2 ^ 32 → Sound flash.blocks flash.image
 sound flash steps h few = let age = h.age_is in taken flash.blocks flash.image h.whole (omega arith)
 
+-- a mount leaves it so
+pub still_taken : (old new : Flash) (steps : ℕ) → IsTaken old steps → steps < 2 ^ 32 → (Sound old.blocks old.image → Leaves old (age_in old.image + 2 ^ 20) new) → IsTaken new (steps + 1)
+still_taken old new steps h few leaves =
+    let left = leaves (sound old steps h few) in
+    let age = h.age_is in
+    record {
+      least = omega (arith, h.least, left.blocks);
+      most = omega (arith, h.most, left.blocks);
+      whole = left.whole;
+      age_is = omega (arith, left.age_is);
+    }
+
 pub small_still : (index : Index) (old new : Flash) (steps : ℕ) → IsSmall index old steps → OnlyReads old new → IsSmall index new steps
 small_still index old new steps h reads =
     let image = reads_image old new reads in
@@ -124,6 +136,16 @@ placed before after old new steps h same kept stands aged ages =
       pages = ap pages_named kept.shown ∙ h.pages;
       age_is = omega arith;
     }
+
+-- a step more says no more
+pub later : (index : Index) (flash : Flash) (steps : ℕ) → IsSmall index flash (steps + 1) → IsSmall index flash (steps + 2)
+later index flash steps h = record {
+  taken = record { least = h.taken.least; most = h.taken.most; whole = h.taken.whole; age_is = let age = h.taken.age_is in omega arith };
+  stands = h.stands;
+  keys = let keys = h.keys in omega arith;
+  pages = h.pages;
+  age_is = let age = h.age_is in omega arith;
+}
 
 pub room : (index : Index) (flash : Flash) (steps : ℕ) (entries : List Entry) → IsSmall index flash steps → steps ≤ 800 → length entries ≤ 5 → pages_named entries ≡ []
     → (length (with_entries (shown_in flash.image) entries) ≤ max_keys_in flash.blocks) × (length (pages_named (with_entries (shown_in flash.image) entries)) ≤ max_pages_in flash.blocks)

@@ -390,7 +390,7 @@ fn filled<N: Nand>(
 }
 
 #[test]
-fn a_log_of_eight_blocks_is_merged(rt: HostRuntime) -> Result<(), Fail> {
+fn a_log_of_eight_blocks_is_frozen(rt: HostRuntime) -> Result<(), Fail> {
     let wanted: [Shown; 3] = [(1, Some(249)), (2, Some(250)), (3, Some(248))];
     let mut nand = MemNand::fresh(rt.alloc(), 256)?;
     let (made, before, after) = filled(rt.alloc(), &mut nand, 251).ok_or("memory")?;

@@ -19,15 +19,17 @@ use Rattle.kssd_frames.proofs.Places.{region_of_values, run_page_place}
 use Rattle.kssd_frames.proofs.SameImages.{IsSameRun, index_stays}
 use Rattle.kssd_index.specs.declared.index.Index.{Index}
 use Rattle.kssd_index.specs.Standing.{IsIndex}
-use Rattle.kssd_index.specs.Mapping.{HasIndex}
+use Rattle.kssd_root.specs.Mapping.{HasIndex}
 use Rattle.kssd_index.proofs.Beside.{index_beside}
-use Rattle.kssd_values.specs.Blocks.{device_of, has_target}
+use Rattle.kssd_values.specs.Blocks.{device_of}
 use Rattle.kssd_values.specs.Pages.{Fills}
 use Rattle.kssd_machine.specs.Names.{are_rising, are_valued}
 use Rattle.kssd_machine.specs.Marked.{AreMarked, HasBlock}
 use Rattle.kssd_mounted.specs.declared.mounted.Mounted.{Mounted}
 use Rattle.kssd_mounted.specs.Standing.{Stands}
+use Rattle.kssd_mounted.specs.Collections.{CollectsIn, BearsCollection}
 use Rattle.kssd_mounted.specs.Beside.{OnlyValues}
+use Rattle.kssd_mounted.proofs.Bearing.{collection_stays}
 
 -- ---- pages that stay
 
@@ -99,9 +101,9 @@ has_index m flash stands = record { found = stands.whole.found; index = stands.w
 
 -- a device whose index is as before stands again beside other values, marks and changes, over a flash that has changed in blocks of values only
 pub stands_beside : (old new : Mounted) (before after : Flash) → Stands old before → OnlyValues before.blocks before.image after.image → after.powered ≡ true → after.blocks ≡ before.blocks → IsWhole after.blocks after.image
-    → new.index ≡ old.index → new.keys ≡ old.keys → new.pages ≡ old.pages → device_of new.values ≡ device_of old.values → Fills new.values after.image → has_target new.values ≡ false → HasBlock new.values
+    → new.index ≡ old.index → new.keys ≡ old.keys → new.pages ≡ old.pages → device_of new.values ≡ device_of old.values → Fills new.values after.image → new.collection ≡ old.collection → BearsCollection old.values new.values before.image after.image → HasBlock new.values
     → length new.changes ≡ 4 → are_rising new.changes ≡ true → are_valued after.blocks after.image new.changes ≡ true → AreMarked new.values (shown_in before.image) new.changes → Stands new after
-stands_beside old new before after stands only powered blocks whole index keys pages device fills idle block four rising valued marked =
+stands_beside old new before after stands only powered blocks whole index keys pages device fills under_way bears block four rising valued marked =
     let shown = shown_stays before.blocks before.image after.image only (has_index old before stands) in
     record {
       powered = powered;
@@ -111,7 +113,7 @@ stands_beside old new before after stands only powered blocks whole index keys p
       index = subst (λ n. IsIndex new.index n after.image) (sym blocks) (subst (λ i. IsIndex i before.blocks after.image) (sym index) (index_stands old.index before.blocks before.image after.image only stands.index));
       device = device ∙ stands.device ∙ sym blocks;
       fills = fills;
-      idle = idle;
+      collecting = subst (λ c. CollectsIn c new.values after.image) (sym under_way) (collection_stays old.collection old.values new.values before.image after.image stands.collecting bears);
       four = four;
       rising = rising;
       valued = valued;

@@ -24,6 +24,7 @@ use Rattle.kssd_tx.specs.Refusals.{tx_refusal, set_refusal, is_full}
 use Rattle.kssd_values.specs.declared.mark.Mark.{Mark}
 use Rattle.kssd_values.specs.declared.mark.Mark.TheVariants.{Pending, Dead}
 use Rattle.kssd_values.specs.declared.values.Values.{Values}
+use Rattle.kssd_values.specs.Marks.{is_live}
 use Rattle.kssd_values.specs.Places.{IsValueBlock}
 use Rattle.kssd_values.specs.Blocks.{device_of, mark_at}
 use Rattle.kssd_values.specs.Changes.{SamePlaces}
@@ -40,6 +41,7 @@ use Rattle.kssd_machine.proofs.Seeing.{own_valued, list_valued, page_read}
 use Rattle.kssd_mounted.specs.declared.mounted.Mounted.{Mounted}
 use Rattle.kssd_mounted.specs.Marking.{MayMark, is_page, IsPageOf}
 use Rattle.kssd_mounted.specs.Standing.{Stands, machine_at, machine_after, takes_down}
+use Rattle.kssd_mounted.proofs.Bearing.{live_before}
 use Rattle.kssd_mounted.proofs.Staying.{restands}
 
 -- ---- faults
@@ -95,7 +97,7 @@ pub begun_stands : (m : Mounted) (flash : Flash) (tx : ℕ) (lists : Transaction
 begun_stands m flash tx lists stands free is =
     subst (λ l. Stands (record m { changes = l }) flash) (sym is)
     (restands m (record m { changes = with_list m.changes tx (Some []) }) flash stands refl (same_places m.values) (length-set m.changes tx (Some []) ∙ stands.four) (rising_begun m.changes tx stands.rising)
-    (valued_begun flash.blocks flash.image m.changes tx stands.valued) (begun m.values (shown_in flash.image) m.changes tx (free_is_closed m.changes tx free) stands.marked) refl refl)
+    (valued_begun flash.blocks flash.image m.changes tx stands.valued) (begun m.values (shown_in flash.image) m.changes tx (free_is_closed m.changes tx free) stands.marked) refl refl refl (λ page is. is))
 
 pub begun_done : (m : Mounted) (flash : Flash) (tx : ℕ) (lists : Transactions) → free_number m.changes ≡ Some tx → lists ≡ with_list m.changes tx (Some []) → BeginDone (machine_at flash m) tx (machine_of flash true lists)
 begun_done m flash tx lists free is = subst (λ l. BeginDone (machine_at flash m) tx (machine_of flash true l)) (sym is) (begins flash m.changes tx free)
@@ -170,7 +172,7 @@ abort_stands m flash tx es values lists stands same marks places is =
     subst (λ l. Stands (record m { values = values; changes = l }) flash) (sym is)
     (restands m (record m { values = values; changes = with_list m.changes tx None }) flash stands refl places (length-set m.changes tx None ∙ stands.four) (rising_closed m.changes tx stands.rising)
     (valued_closed flash.blocks flash.image m.changes tx stands.valued)
-    (aborts m.values values (shown_in flash.image) m.changes tx stands.marked (λ q. marks q ∙ ap (λ l. remarked l Dead (mark_at m.values) q) same)) refl refl)
+    (aborts m.values values (shown_in flash.image) m.changes tx stands.marked (λ q. marks q ∙ ap (λ l. remarked l Dead (mark_at m.values) q) same)) refl refl refl (λ page is. live_before (is_named page es) (mark_at m.values page) (sym (ap is_live (marks page)) ∙ is)))
 
 pub open_allowed : (lists : Transactions) (tx : ℕ) (key : List ℕ) → set_refusal lists tx key ≡ None → is_some (list_of lists tx) ≡ true
 open_allowed lists tx key allowed = by (is_some (list_of lists tx)) (is_full lists tx key) allowed
@@ -205,7 +207,7 @@ change_stands m flash tx entry key found older values lists stands allowed unpag
     subst (λ l. Stands (record m { values = values; changes = l }) flash) (sym after)
     (restands m (record m { values = values; changes = with_entry m.changes tx entry }) flash stands refl places (length-set m.changes tx (Some (put_entry (changes_of m.changes tx) entry)) ∙ stands.four) (rising_with m.changes tx entry stands.rising)
     (valued_with flash.blocks flash.image m.changes tx entry stands.valued (unnamed_valued flash.blocks flash.image entry unpaged))
-    (sets m.values values (shown_in flash.image) m.changes tx entry stands.rising (open_allowed m.changes tx (key_of entry) allowed) stands.marked dead remark) refl refl)
+    (sets m.values values (shown_in flash.image) m.changes tx entry stands.rising (open_allowed m.changes tx (key_of entry) allowed) stands.marked dead remark) refl refl refl (λ page is. live_before (is_page page older) (mark_at m.values page) (sym (ap is_live (marks page)) ∙ is)))
 
 pub abort_done : (m : Mounted) (flash : Flash) (tx : ℕ) (lists : Transactions) → tx_refusal m.changes tx ≡ None → lists ≡ with_list m.changes tx None → AbortDone (machine_at flash m) tx (machine_of flash true lists)
 abort_done m flash tx lists allowed is = subst (λ l. AbortDone (machine_at flash m) tx (machine_of flash true l)) (sym is) (closes flash m.changes tx allowed)

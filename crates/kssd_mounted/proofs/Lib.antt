@@ -1,3 +1,4 @@
+pub mod Bearing
 pub mod Staying
 pub mod Changing
 pub mod BesideValues

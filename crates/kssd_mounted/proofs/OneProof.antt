@@ -16,15 +16,25 @@ use Rattle.kssd_levels.specs.declared.levels.Levels.{Levels}
 use Rattle.kssd_levels.specs.Runs.{StandRuns}
 use Rattle.kssd_levels.specs.Levels.{StandLevels}
 use Rattle.kssd_log.specs.declared.place.Place.{Place}
+use Rattle.kssd_compact.specs.declared.job.Job.{Job}
+use Rattle.kssd_compact.specs.Job.{IsJobOver}
+use Rattle.kssd_levels.specs.declared.kind.JobKind.{JobKind}
 use Rattle.kssd_index.specs.declared.index.Index.{Index}
-use Rattle.kssd_index.specs.declared.root.Root.{Root}
-use Rattle.kssd_index.specs.Standing.{IsAnchored, AreRuns, IsRoot, EndsAt, IsIndex}
+use Rattle.kssd_root.specs.declared.root.Root.{Root}
+use Rattle.kssd_root.specs.Standing.{IsAnchored, AreRuns, IsRoot, EndsAt}
+use Rattle.kssd_root.specs.Following.{IsSplit}
+use Rattle.kssd_root.specs.UnderWay.{IsUnderWay as IsJobUnderWay}
+use Rattle.kssd_index.specs.Standing.{EndsWithin, StandsOver, IsIndex}
 use Rattle.kssd_values.specs.declared.filling.Filling.{Filling}
 use Rattle.kssd_values.specs.declared.values.Values.{Values}
 use Rattle.kssd_values.specs.Pages.{FillsBlock, FillsIn, Fills}
 use Rattle.kssd_tx.specs.Lists.{Transactions}
+use Rattle.kssd_reclaim.specs.declared.reclaim.Reclaim.{Reclaim}
+use Rattle.kssd_reclaim.specs.Reclaim.{Collects, IsCopy}
+use Rattle.kssd_machine.specs.Collecting.{HasTargets, AreFew}
 use Rattle.kssd_machine.specs.Marked.{AreMarked}
 use Rattle.kssd_mounted.specs.declared.mounted.Mounted.{Mounted}
+use Rattle.kssd_mounted.specs.Collections.{IsUnderWay, CollectsIn}
 use Rattle.kssd_mounted.specs.Standing.{Stands}
 
 run-prop : (device : ℕ) (image : Image) (run : Run) → IsProp (StandsRun run device image)
@@ -64,8 +74,24 @@ IsRoot-prop root blocks image = Prim.hlevel (props, IsAnchored-prop, AreRuns-pro
 EndsAt-prop : (place : Place) (anchor : Anchor) (image : Image) → IsProp (EndsAt place anchor image)
 EndsAt-prop place anchor image = Prim.hlevel props
 
+IsSplit-prop : (table : List Entry) (later : Anchor) (root : Root) (blocks : ℕ) (image : Image) → IsProp (IsSplit table later root blocks image)
+IsSplit-prop table later root blocks image = Prim.hlevel (props, IsLogWhole-prop)
+
+EndsWithin-prop : (place : Place) (anchor : Anchor) (image : Image) → IsProp (EndsWithin place anchor image)
+EndsWithin-prop place anchor image = Prim.hlevel props
+
+IsJobOver-prop : (kind : JobKind) (levels : Levels) (job : Job) → IsProp (IsJobOver kind levels job)
+IsJobOver-prop kind levels job = Prim.hlevel props
+
+IsJobUnderWay-prop : (kind : JobKind) (job : Job) (table : List Entry) (root : Root) (blocks : ℕ) (image : Image) → IsProp (IsJobUnderWay kind job table root blocks image)
+IsJobUnderWay-prop kind job table root blocks image = Prim.hlevel (props, IsJobOver-prop)
+
+StandsOver-prop : (job : Option Job) (root : Root) (blocks : ℕ) (image : Image) → IsProp (StandsOver job root blocks image)
+StandsOver-prop None root blocks image = Unit-prop
+StandsOver-prop (Some job) root blocks image = IsJobUnderWay-prop _ job [] root blocks image
+
 pub IsIndex-prop : (index : Index) (blocks : ℕ) (image : Image) → IsProp (IsIndex index blocks image)
-IsIndex-prop index blocks image = Prim.hlevel (props, IsRoot-prop, EndsAt-prop)
+IsIndex-prop index blocks image = Prim.hlevel (props, IsRoot-prop, IsSplit-prop, EndsAt-prop, EndsWithin-prop, StandsOver-prop)
 
 FillsBlock-prop : (filling : Filling) (image : Image) → IsProp (FillsBlock filling image)
 FillsBlock-prop filling image = Prim.hlevel props
@@ -80,5 +106,12 @@ Fills-prop v image = Prim.hlevel (props, FillsIn-prop)
 AreMarked-prop : (v : Values) (visible : List Entry) (lists : Transactions) → IsProp (AreMarked v visible lists)
 AreMarked-prop v visible lists = Prim.hlevel props
 
+IsUnderWay-prop : (r : Reclaim) (v : Values) (image : Image) → IsProp (IsUnderWay r v image)
+IsUnderWay-prop r v image = Prim.hlevel props
+
+CollectsIn-prop : (c : Option Reclaim) (v : Values) (image : Image) → IsProp (CollectsIn c v image)
+CollectsIn-prop None v image = Prim.hlevel props
+CollectsIn-prop (Some r) v image = IsUnderWay-prop r v image
+
 pub Stands-prop : (m : Mounted) (flash : Flash) → IsProp (Stands m flash)
-Stands-prop m flash = Prim.hlevel (props, IsWhole-prop, IsIndex-prop, Fills-prop, AreMarked-prop)
+Stands-prop m flash = Prim.hlevel (props, IsWhole-prop, IsIndex-prop, Fills-prop, AreMarked-prop, CollectsIn-prop)

@@ -15,6 +15,7 @@ use Rattle.kssd_image.specs.Whole.{age_in, age_of, IsWhole}
 use Rattle.kssd_tx.specs.declared.fault.TxFault.TheVariants as tx_faults
 use Rattle.kssd_tx.specs.Lists.{Transactions, list_of}
 use Rattle.kssd_tx.specs.Refusals.{tx_refusal}
+use Rattle.kssd_values.specs.Blocks.{is_live_at}
 use Rattle.kssd_values.specs.Changes.{SamePlaces}
 use Rattle.kssd_index.specs.declared.index.Index.{Index}
 use Rattle.kssd_index.specs.Standing.{IsIndex, index_age}
@@ -28,7 +29,9 @@ use Rattle.kssd_machine.proofs.Standing.{reading_stays}
 use Rattle.kssd_machine.proofs.Transacting.{first_is, reading_fallen}
 use Rattle.kssd_machine.proofs.Falling.{reading}
 use Rattle.kssd_mounted.specs.declared.mounted.Mounted.{Mounted}
+use Rattle.kssd_mounted.specs.Collections.{CollectsIn}
 use Rattle.kssd_mounted.specs.Standing.{Stands, Leaves, mounted_age, machine_at, machine_after, takes_down}
+use Rattle.kssd_mounted.proofs.Bearing.{collection_stays, bears_marks}
 
 -- a flash after mere reading
 read_at : (m : Mounted) (old : Flash) (reads : ℕ) → Stands m old → Stands m (record old { reads = reads })
@@ -40,7 +43,7 @@ read_at m old reads stands = record {
   index = stands.index;
   device = stands.device;
   fills = stands.fills;
-  idle = stands.idle;
+  collecting = stands.collecting;
   four = stands.four;
   rising = stands.rising;
   valued = stands.valued;
@@ -66,10 +69,11 @@ leaves_image m old new blocks image stands = record {
   age_is = subst (λ i. age_in i ≤ mounted_age m) (sym image) (index_is_old m.index old.blocks old.image stands.index);
 }
 
--- other changes and marks, with the same index and counts
+-- other changes, and marks with which no page comes to life, with the same index, counts and collection
 pub restands : (old new : Mounted) (flash : Flash) → Stands old flash → new.index ≡ old.index → SamePlaces old.values new.values → length new.changes ≡ 4 → are_rising new.changes ≡ true
-    → are_valued flash.blocks flash.image new.changes ≡ true → AreMarked new.values (shown_in flash.image) new.changes → new.keys ≡ old.keys → new.pages ≡ old.pages → Stands new flash
-restands old new flash stands index places four rising valued marked keys pages = record {
+    → are_valued flash.blocks flash.image new.changes ≡ true → AreMarked new.values (shown_in flash.image) new.changes → new.keys ≡ old.keys → new.pages ≡ old.pages
+    → new.collection ≡ old.collection → ((page : ℕ) → is_live_at new.values page ≡ true → is_live_at old.values page ≡ true) → Stands new flash
+restands old new flash stands index places four rising valued marked keys pages under_way less = record {
   powered = stands.powered;
   least = stands.least;
   most = stands.most;
@@ -77,7 +81,7 @@ restands old new flash stands index places four rising valued marked keys pages 
   index = subst (λ i. IsIndex i flash.blocks flash.image) (sym index) stands.index;
   device = places.device ∙ stands.device;
   fills = places.fills flash.image stands.fills;
-  idle = places.target.has ∙ stands.idle;
+  collecting = subst (λ c. CollectsIn c new.values flash.image) (sym under_way) (collection_stays old.collection old.values new.values flash.image flash.image stands.collecting (bears_marks old.values new.values flash.image places (λ page where_. less page)));
   four = four;
   rising = rising;
   valued = valued;

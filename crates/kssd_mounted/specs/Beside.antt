@@ -8,7 +8,7 @@ use Rattle.kssd_image.specs.Whole.{IsIndexOf, age_in}
 use Rattle.kssd_values.specs.Places.{IsValueBlock}
 use Rattle.kssd_index.specs.declared.index.Index.{Index}
 use Rattle.kssd_index.specs.Standing.{IsIndex}
-use Rattle.kssd_index.specs.Mapping.{HasIndex}
+use Rattle.kssd_root.specs.Mapping.{HasIndex}
 
 -- the pages outside the blocks of values are the same
 abbrev pub OnlyValues : ℕ → Image → Image → Type 0

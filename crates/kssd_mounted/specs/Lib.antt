@@ -1,3 +1,4 @@
+pub mod Collections
 pub mod Standing
 pub mod Marking
 pub mod Beside

@@ -6,15 +6,16 @@ use Rattle.kv_device.specs.declared.fault.DeviceFault.{DeviceFault}
 use Rattle.kv_device.specs.declared.fault.DeviceFault.TheVariants.{NoTx, Busy, TxFull, Full, BadSize, Off, Failed, Memory}
 use Rattle.kssd_image.specs.Stages.{shown_in}
 use Rattle.kssd_image.specs.Whole.{pages_named, IsWhole, age_in}
-use Rattle.kssd_values.specs.Blocks.{device_of, has_target}
+use Rattle.kssd_values.specs.Blocks.{device_of}
 use Rattle.kssd_values.specs.Pages.{Fills}
 use Rattle.kssd_index.specs.Standing.{IsIndex, index_age}
 use Rattle.kssd_machine.specs.Names.{are_rising, are_valued}
 use Rattle.kssd_machine.specs.Machines.{machine_of, resting}
 use Rattle.kssd_machine.specs.Marked.{AreMarked, HasBlock}
 use Rattle.kssd_mounted.specs.declared.mounted.Mounted.{Mounted}
+use Rattle.kssd_mounted.specs.Collections.{CollectsIn}
 
--- a device stands on a flash with power that a mount takes: its index and values are the image's, each pending value stands in its page, no block is being copied into, a page has the mark of the entry that names it, there are four transactions, open or not, and the two counts are those of the visible entries
+-- a device stands on a flash with power that a mount takes: its index and values are the image's, each pending value stands in its page, a block is copied into only for the collection under way, a page has the mark of the entry that names it, there are four transactions, open or not, and the two counts are those of the visible entries
 pub record Stands (m : Mounted) (flash : Flash) : Type 0 where
   pub powered : flash.powered ≡ true
   pub least : 256 ≤ flash.blocks
@@ -23,7 +24,7 @@ pub record Stands (m : Mounted) (flash : Flash) : Type 0 where
   pub index : IsIndex m.index flash.blocks flash.image
   pub device : device_of m.values ≡ flash.blocks
   pub fills : Fills m.values flash.image
-  pub idle : has_target m.values ≡ false
+  pub collecting : CollectsIn m.collection m.values flash.image
   pub four : length m.changes ≡ 4
   pub rising : are_rising m.changes ≡ true
   pub valued : are_valued flash.blocks flash.image m.changes ≡ true

@@ -120,7 +120,7 @@ fn finish<N: Nand>(
             };
         }
         match job.step(alloc, nand) {
-            Ok(()) => {}
+            Ok(_) => {}
             Err(fault) => return Some(Err(fault)),
         }
     }

@@ -67,6 +67,14 @@ impl Reclaim {
         None
     }
 
+    /// Whether no page is left to be copied.
+    pub fn is_done(&self, values: &Values) -> bool
+        requires { IsValueBlock (device_of values.now) (block_of self.now) }
+        ensures { IsTrue result ↔ AllCopied self.now values.now }
+    {
+        self.next_source(values).is_none()
+    }
+
     // Adds the copy of a page.
     fn add<N: Nand>(
         &mut self,

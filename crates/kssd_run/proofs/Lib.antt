@@ -11,3 +11,4 @@ pub mod RunBlocks
 pub mod Merely
 pub mod Staying
 pub mod Seeking
+pub mod InPage

@@ -1,4 +1,4 @@
-ghost use Rattle.std.specs.Prelude.{◌≡◌, ◌≢◌, ◌<◌, ◌≤◌, ◌+◌, ◌*◌, ◌/◌, ◌==◌, ℕ, [], length, IfOk, OnOk, IfErr, IsSome, Some, option_copied};
+ghost use Rattle.std.specs.Prelude.{◌≡◌, ◌≢◌, ◌<◌, ◌≤◌, ◌+◌, ◌*◌, ◌/◌, ◌==◌, ℕ, [], length, IfOk, OnOk, IfErr, IsSome, Some};
 ghost use Rattle.kv_nand.specs.Calls.{has_read};
 ghost use Rattle.kssd_model.specs.OnlyReading.{OnlyReads, StopsReading};
 ghost use Rattle.kssd_model.specs.Rising.{find_entry, entries_from};
@@ -12,9 +12,9 @@ ghost use Rattle.kssd_run.specs.Pages.{GivesFrom, IsSplitAt, rest_before};
 use crate::RunFault;
 use crate::index::FirstKeys;
 use crate::judge::is_good;
-use crate::page::read_run_page;
+use crate::page::{find_in_run_page, read_run_page, rest_in_run_page};
 use kssd_entry::{Entries, Entry};
-use kssd_model::{BlockList, RunInfo, copies_of, found_in, rest_from};
+use kssd_model::{BlockList, RunInfo};
 use kv_base::{Key, Memory};
 use kv_nand::{FlashFault, Nand};
 use std::alloc::Global;
@@ -214,8 +214,47 @@ impl Run {
         if upto == 0 {
             return Ok(None);
         }
-        let entries = self.read_at(alloc, nand, upto - 1)?;
-        Ok(copy_of(alloc, found_in(entries.as_slice(), key))?)
+        self.find_at(alloc, nand, upto - 1, key)
+    }
+
+    // The entry of a key in a page, by an index of the first keys. Only the entry is copied.
+    fn find_at<N: Nand>(
+        &self,
+        alloc: Global,
+        nand: &mut N,
+        index: usize,
+        key: &Key,
+    ) -> Result<Option<Entry>, FlashFault>
+        requires index { index < (run_info self.now).pages }
+        requires stands { StandsRun self.now (N.flash nand.old).blocks (N.flash nand.old).image }
+        ensures value { IfOk result (λ found. found ≡ find_entry (page_entries (N.flash nand.old).image (run_info self.now).number (run_info self.now).blocks index) key.now) }
+        ensures read { OnOk result (N.flash nand.new ≡ has_read (N.flash nand.old)) }
+        ensures few { (N.flash nand.new).reads ≤ (N.flash nand.old).reads + 1 }
+        ensures err { IfErr result (λ fault. StopsReading (N.flash nand.old) fault (N.flash nand.new)) }
+    {
+        let _pages = self.info.pages;
+        let place = page_place(&self.info.blocks, index as u32);
+        find_in_run_page(alloc, nand, place, key)
+    }
+
+    // The entries from a key on in a page, by an index of the first keys. Only these are copied.
+    fn rest_in<N: Nand>(
+        &self,
+        alloc: Global,
+        nand: &mut N,
+        index: usize,
+        key: &Key,
+    ) -> Result<Entries, FlashFault>
+        requires index { index < (run_info self.now).pages }
+        requires stands { StandsRun self.now (N.flash nand.old).blocks (N.flash nand.old).image }
+        ensures value { IfOk result (λ rest. rest ≡ entries_from (page_entries (N.flash nand.old).image (run_info self.now).number (run_info self.now).blocks index) key.now) }
+        ensures read { OnOk result (N.flash nand.new ≡ has_read (N.flash nand.old)) }
+        ensures few { (N.flash nand.new).reads ≤ (N.flash nand.old).reads + 1 }
+        ensures err { IfErr result (λ fault. StopsReading (N.flash nand.old) fault (N.flash nand.new)) }
+    {
+        let _pages = self.info.pages;
+        let place = page_place(&self.info.blocks, index as u32);
+        rest_in_run_page(alloc, nand, place, key)
     }
 
     // The entries from a key on in the page before this one; none before the first.
@@ -236,8 +275,7 @@ impl Run {
         if upto == 0 {
             return Ok(Entries::new(alloc));
         }
-        let entries = self.read_at(alloc, nand, upto - 1)?;
-        Ok(copies_of(alloc, rest_from(entries.as_slice(), key))?)
+        self.rest_in(alloc, nand, upto - 1, key)
     }
 
     /// The entries from a key on in the first page that has any, and the index of the page behind it.
@@ -301,15 +339,5 @@ impl Run {
             info: self.info.copy(alloc)?,
             firsts: self.firsts.copy(alloc)?,
         })
-    }
-}
-
-// A copy of an entry that was found.
-fn copy_of(alloc: Global, found: Option<&Entry>) -> Result<Option<Entry>, Memory>
-    ensures { IfOk result (λ copy. copy ≡ option_copied found.entry) }
-{
-    match found {
-        Some(entry) => Ok(Some(entry.copy(alloc)?)),
-        None => Ok(None),
     }
 }

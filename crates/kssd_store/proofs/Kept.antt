@@ -9,7 +9,7 @@ use Rattle.kssd_values.specs.declared.mark.Mark.{Mark}
 use Rattle.kssd_values.specs.declared.mark.Mark.TheVariants.{Pending, Visible, Dead}
 use Rattle.kssd_values.specs.Marks.{is_live}
 use Rattle.kssd_values.specs.Blocks.{mark_at}
-use Rattle.kssd_values.specs.Pages.{is_value, KeepsPages}
+use Rattle.kssd_values.specs.Pages.{is_value, KeepsPages, LiveStand}
 use Rattle.kssd_machine.specs.Names.{times_pending, are_valued}
 use Rattle.kssd_machine.specs.Machines.{ArePendingSame}
 use Rattle.kssd_machine.specs.Marked.{is_pending}
@@ -38,6 +38,10 @@ leaves_kept m old new stands keeps blocks =
 -- the pages of pending changes count for the same
 pub pending_kept : (m : Mounted) (old new : Flash) → Stands m old → KeepsPages m.values old.image new.image → ArePendingSame old.image new.image m.changes
 pending_kept m old new stands keeps = pending_stays old.blocks m.values old.image new.image (shown_in old.image) m.changes stands.marked stands.whole.values.pages stands.valued keeps
+
+-- every visible or pending page stands as the page of a value
+pub stand : (m : Mounted) (old : Flash) → Stands m old → LiveStand m.values old.image
+stand m old stands = record { each = λ q live. (live_holds old.blocks m.values old.image (shown_in old.image) m.changes q stands.marked stands.whole.values.pages stands.valued live).1 }
 
 live_since : (mark : Mark) (n : ℕ) → n ≡ cond (is_pending mark) 1 0 → 1 ≤ n → is_live mark ≡ true
 live_since Pending n is some = refl

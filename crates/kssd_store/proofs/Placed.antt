@@ -1,11 +1,12 @@
 -- A device after a value was put in a page, and a change names that.
-use Rattle.std.proofs.Common.{◌≡◌, ◌≢◌, ◌⊎◌, ◌∙◌, ℕ, ◌/◌, Bool, true, false, ◌||◌, eqb, List, [], ◌∷◌, length, None, refl, sym, ap, subst, Some, length-set}
+use Rattle.std.proofs.Common.{◌≡◌, ◌≢◌, ◌⊎◌, ◌∙◌, ℕ, ◌/◌, inl, inr, Bool, true, false, cond, ◌||◌, eqb, List, [], ◌∷◌, length, None, refl, sym, ap, subst, Some, length-set}
 use Rattle.std.proofs.lemmas.Bool.{eqb-true}
 use Rattle.kv_nand.specs.Flash.{Flash, Erased}
 use Rattle.kv_nand.specs.Working.{Works}
 use Rattle.kv_nand.proofs.Chaining.{works_blocks, works_powered}
 use Rattle.kv_device.specs.Calls.{SetDone}
 use Rattle.kv_device.specs.Calls as refusals
+use Rattle.kssd_entry.specs.declared.entry.Entry.{Entry}
 use Rattle.kssd_entry.specs.declared.entry.Entry.TheVariants.{At}
 use Rattle.kssd_image.specs.ValuePages.{HoldsValue}
 use Rattle.kssd_image.specs.Stages.{shown_in}
@@ -14,12 +15,13 @@ use Rattle.kssd_model.specs.Rising.{put_entry}
 use Rattle.kssd_values.specs.declared.mark.Mark.TheVariants.{Pending, Dead}
 use Rattle.kssd_values.specs.declared.values.Values.{Values}
 use Rattle.kssd_values.specs.Places.{IsValueBlock}
-use Rattle.kssd_values.specs.Blocks.{mark_at, free_room}
+use Rattle.kssd_values.specs.Marks.{is_live}
+use Rattle.kssd_values.specs.Blocks.{Open, Closed, Target, mark_at, is_live_at, state_at, free_room}
 use Rattle.kssd_values.specs.Pages.{Fills, KeepsPages}
 use Rattle.kssd_values.specs.Changes.{SamePlaces, Puts}
 use Rattle.kssd_machine.specs.Names.{are_rising, are_valued}
 use Rattle.kssd_machine.specs.Machines.{machine_of}
-use Rattle.kssd_machine.specs.Marked.{AreMarked, is_named, IsRemarked, WereDead}
+use Rattle.kssd_machine.specs.Marked.{AreMarked, is_named, remarked, IsRemarked, WereDead}
 use Rattle.kssd_machine.specs.Sizes.{listed}
 use Rattle.kssd_machine.specs.Calling.{with_entry}
 use Rattle.kssd_machine.proofs.Standing.{stays, works_same}
@@ -29,10 +31,12 @@ use Rattle.kssd_machine.proofs.Tagging.{sets}
 use Rattle.kssd_machine.proofs.Valuing.{holds, valued_with}
 use Rattle.kssd_mounted.specs.declared.mounted.Mounted.{Mounted}
 use Rattle.kssd_mounted.specs.Beside.{OnlyValues}
+use Rattle.kssd_mounted.specs.Collections.{BearsCollection}
+use Rattle.kssd_mounted.proofs.Bearing.{bears_then, bears_put, bears_marks, live_before}
 use Rattle.kssd_mounted.proofs.BesideValues.{stands_beside}
 use Rattle.kssd_mounted.specs.Standing.{Stands, machine_at}
 use Rattle.kssd_store.proofs.Allowed.{may_set}
-use Rattle.kssd_store.proofs.Kept.{objects_kept, pending_kept, valued_kept, leaves_kept}
+use Rattle.kssd_store.proofs.Kept.{objects_kept, pending_kept, valued_kept, leaves_kept, stand}
 use Rattle.kssd_store.proofs.Renaming.{put_on_dead, marks_put}
 
 -- a change names the page, in place of the older page of its key
@@ -90,6 +94,24 @@ marks_named m n old new v tx page key value placed =
 
 -- ---- the device
 
+-- the page that is pending now isn't one of a closed block or of one copied into
+apart_marks : (v w : Values) (gone : List Entry) (page size q : ℕ) (key : List ℕ) → state_at v (page / 32) ≡ Open → IsRemarked v gone (At key page size ∷ []) Pending w → (state_at v (q / 32) ≡ Closed) ⊎ (state_at v (q / 32) ≡ Target) → is_live_at w q ≡ true → is_live_at v q ≡ true
+apart_marks v w gone page size q key here marks where_ live = by (eqb page q) refl (sym (ap is_live (marks q)) ∙ live)
+  where
+    by : (b : Bool) → eqb page q ≡ b → is_live (cond (b || false) Pending (remarked gone Dead (mark_at v) q)) ≡ true → is_live_at v q ≡ true
+    by true same h =
+        let open_ : state_at v (q / 32) ≡ Open = ap (λ (p : ℕ). state_at v (p / 32)) (sym (eqb-true page q same)) ∙ here in
+        elim where_ [
+          | inl closed ↦ absurd (let e : Closed ≡ Open = sym closed ∙ open_ in cc)
+          | inr into ↦ absurd (let e : Target ≡ Open = sym into ∙ open_ in cc)
+        ]
+    by false away h = live_before (is_named q gone) (mark_at v q) h
+
+bears : (m n : Mounted) (old new : Flash) (v : Values) (tx page : ℕ) (key value : List ℕ) → IsPlaced m n old new v tx page key value → BearsCollection m.values n.values old.image new.image
+bears m n old new v tx page key value placed =
+    bears_then m.values v n.values old.image new.image new.image (bears_put m.values v page old.image new.image placed.puts placed.keeps (stand m old placed.stood))
+    (bears_marks v n.values new.image placed.named.places (λ q where_ live. apart_marks v n.values (listed (change_of m.changes tx key)) page (length value) q key placed.puts.here placed.named.marks where_ live))
+
 pub stands_after : (m n : Mounted) (old new : Flash) (v : Values) (tx page : ℕ) (key value : List ℕ) → IsPlaced m n old new v tx page key value → Stands n new
 stands_after m n old new v tx page key value placed =
     let blocks = works_blocks old new 2 0 placed.works in
@@ -100,7 +122,7 @@ stands_after m n old new v tx page key value placed =
     stands_beside m n old new placed.stood only (works_powered old new 2 0 placed.works ∙ placed.stood.powered) blocks
     (leaves_kept m old new placed.stood placed.keeps blocks).whole
     (ap (λ (x : Mounted). x.index) placed.named.rest) (ap (λ (x : Mounted). x.keys) placed.named.rest) (ap (λ (x : Mounted). x.pages) placed.named.rest)
-    (placed.named.places.device ∙ placed.puts.device) (placed.named.places.fills new.image placed.fills) (placed.named.places.target.has ∙ placed.puts.target.has ∙ placed.stood.idle)
+    (placed.named.places.device ∙ placed.puts.device) (placed.named.places.fills new.image placed.fills) (ap (λ (x : Mounted). x.collection) placed.named.rest) (bears m n old new v tx page key value placed)
     (block_after_mark v n.values placed.named.places (block_after_put m.values v page placed.puts placed.room placed.stood.block))
     (ap (λ (lists : Transactions). length lists) placed.named.changes ∙ length-set m.changes tx (Some (put_entry (changes_of m.changes tx) entry)) ∙ placed.stood.four)
     (subst (λ (lists : Transactions). are_rising lists ≡ true) (sym placed.named.changes) (rising_with m.changes tx entry placed.stood.rising))

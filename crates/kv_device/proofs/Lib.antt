@@ -1,5 +1,6 @@
 pub mod ApartLaws
 pub mod ExchangeLaws
+pub mod HeldLaws
 pub mod KeyMapLaws
 pub mod Lens
 pub mod MachineLaws

@@ -5,7 +5,7 @@ use Rattle.std.specs.FinMap as objects
 use Rattle.kv_device.specs.declared.fault.DeviceFault.{DeviceFault}
 use Rattle.kv_device.specs.declared.fault.DeviceFault.TheVariants.{NoTx, Busy, TxFull, Full, BadSize, Off, Failed, Memory}
 use Rattle.kv_device.specs.Machine.{Machine, is_open, changes_of, change_count, free_number, view, down, begun, with_change, aborted, ended}
-use Rattle.kv_device.specs.Objects.{Objects, page_count, pairs_from, pair_of}
+use Rattle.kv_device.specs.Objects.{Objects, page_count, pairs_from, pair_of, IsHeld}
 use Rattle.kv_base.specs.declared.pairs.Pair.{Pair}
 
 -- ---- refusals: the first that applies
@@ -153,6 +153,7 @@ pub record IsSound (m : Machine) : Type 0 where
   pub cuts : m.cuts ≤ m.most_cuts
   pub faults : m.faults ≤ m.most_faults
   pub four : length m.pending ≡ 4
+  pub held : IsHeld m.stable
 
 -- it doesn't fall, and rises by at most so much
 pub record Ages (old new most : ℕ) : Type 0 where

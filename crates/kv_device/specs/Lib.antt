@@ -1,4 +1,5 @@
 pub mod Apart
+pub mod Asked
 pub mod Bytes
 pub mod Calls
 pub mod Exchange

@@ -1,11 +1,13 @@
 -- Objects: a finite map from keys to values, both lists of bytes, and changes of them.
-use Rattle.std.specs.Prelude.{ℕ, Bool, not, ◌&&◌, nat_lt, nat_eq, List, [], ◌∷◌, length, count_by, filter, Option, Some, None}
+use Rattle.std.specs.Prelude.{◌≡◌, ◌≤◌, ◌^◌, ℕ, Bool, not, ◌&&◌, nat_lt, nat_eq, List, [], ◌∷◌, length, count_by, filter, Option, Some, None}
 use Rattle.std.specs.Ordering.{is_gt}
 use Rattle.std.specs.List.{starts_with}
+use Rattle.std.specs.Option.{ForSome}
 use Rattle.std.specs.FinMap as objects
 use Rattle.std.specs.FinMap.{FinMap}
+use Rattle.kv_base.specs.Sizes.{IsKey, IsValue}
 use Rattle.kv_base.specs.declared.pairs.Pair.{Pair}
-use Rattle.kv_device.specs.Bytes.{bytes_cmp}
+use Rattle.kv_device.specs.Bytes.{bytes_cmp, AreBytes}
 
 abbrev pub Objects : Type 0
 Objects = FinMap bytes_cmp (List ℕ)
@@ -46,3 +48,28 @@ wanted_of m from prefix = objects.retain_keys m (is_wanted from prefix)
 
 abbrev pub pair_of : Pair → List ℕ × List ℕ
 pair_of pair = (pair.key, pair.value)
+
+-- ---- what a device can hold
+
+-- keys have 1 to 264 bytes, values at most 4,096, and the keys can be counted
+pub record IsHeld (m : Objects) : Type 0 where
+  pub key_sizes : (key value : List ℕ) → objects.get m key ≡ Some value → IsKey key
+  pub keys : (key value : List ℕ) → objects.get m key ≡ Some value → AreBytes key
+  pub sizes : (key value : List ℕ) → objects.get m key ≡ Some value → IsValue value
+  pub values : (key value : List ℕ) → objects.get m key ≡ Some value → AreBytes value
+  pub few : objects.len m ≤ 2 ^ 64
+
+-- what can be a key, and what can be a value
+abbrev pub IsHeldKey : List ℕ → Type 0
+IsHeldKey key = IsKey key × AreBytes key
+
+abbrev pub IsHeldValue : List ℕ → Type 0
+IsHeldValue value = IsValue value × AreBytes value
+
+-- each key of the objects and each value can be one
+abbrev pub AreHeld : Objects → Type 0
+AreHeld m = (key value : List ℕ) → objects.get m key ≡ Some value → IsHeldKey key × IsHeldValue value
+
+-- the same of the keys and the new values of changes
+abbrev pub AreHeldChanges : Changes → Type 0
+AreHeldChanges changes = (key : List ℕ) (change : Option (List ℕ)) → objects.get changes key ≡ Some change → IsHeldKey key × ForSome change IsHeldValue

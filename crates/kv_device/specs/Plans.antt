@@ -1,10 +1,11 @@
 -- Planned failures of a device in memory, and which call of `end` each strikes.
-use Rattle.std.specs.Prelude.{◌≡◌, ℕ, ◌-◌, ◌≤◌, ◌⊎◌, Bool, true, false, nat_le, nat_lt, nat_eq, ◌&&◌, Option, Some, None, unwrap_or, if◌then◌else◌}
+use Rattle.std.specs.Prelude.{◌≡◌, ℕ, ◌-◌, ◌≤◌, ◌⊎◌, Bool, true, false, nat_le, nat_lt, nat_eq, not, ◌&&◌, Option, Some, None, unwrap_or, if◌then◌else◌}
 use Rattle.kv_base.specs.Counts.{one_more}
 use Rattle.std.specs.FinMap as objects
 use Rattle.kv_device.specs.declared.fault.DeviceFault.{DeviceFault}
 use Rattle.kv_device.specs.declared.fault.DeviceFault.TheVariants.{Off, Failed, Memory}
 use Rattle.kv_device.specs.declared.plans.CutPlan.{CutPlan}
+use Rattle.kv_device.specs.declared.plans.FaultPlan.{FaultPlan}
 use Rattle.kv_device.specs.declared.plans.Plans.{Plans}
 use Rattle.kv_device.specs.declared.plans.Strike.{Strike}
 use Rattle.kv_device.specs.declared.plans.Strike.TheVariants.{Cut, Fault}
@@ -15,24 +16,26 @@ use Rattle.kv_device.specs.Calls.{has_room}
 
 abbrev pub cut_after : Option CutPlan → Option CutPlan
 cut_after None = None
-cut_after (Some plan) = if nat_lt 1 plan.left then Some (record { left = plan.left - 1; keeps = plan.keeps }) else None
+cut_after (Some plan) = if nat_lt 1 plan.left then Some (record { left = plan.left - 1; how = plan.how }) else None
 
-abbrev pub fault_after : Option ℕ → Option ℕ
+-- only a fault of kind 1 counts
+abbrev pub fault_after : Option FaultPlan → Option FaultPlan
 fault_after None = None
-fault_after (Some left) = if nat_lt 1 left then Some (left - 1) else None
+fault_after (Some plan) =
+    if not (nat_eq plan.kind 1) then Some plan else (if nat_lt 1 plan.left then Some (record { kind = plan.kind; left = plan.left - 1 }) else None)
 
 abbrev pub passed : Plans → Plans
 passed p = record { cut = cut_after p.cut; fault = fault_after p.fault }
 
--- a planned fault strikes at its last end
-abbrev pub fault_strike : Option ℕ → Option Strike
+-- a planned fault of kind 1 strikes at its last end
+abbrev pub fault_strike : Option FaultPlan → Option Strike
 fault_strike None = None
-fault_strike (Some left) = if nat_le left 1 then Some Fault else None
+fault_strike (Some plan) = if nat_eq plan.kind 1 && nat_le plan.left 1 then Some Fault else None
 
 -- a planned cut strikes at its last end, and comes before a fault there
-abbrev pub strike_by : Option CutPlan → Option ℕ → Option Strike
+abbrev pub strike_by : Option CutPlan → Option FaultPlan → Option Strike
 strike_by None fault = fault_strike fault
-strike_by (Some plan) fault = if nat_le plan.left 1 then Some (Cut plan.keeps) else fault_strike fault
+strike_by (Some plan) fault = if nat_le plan.left 1 then Some (Cut (nat_eq plan.how 3)) else fault_strike fault
 
 abbrev pub strike_of : Plans → Option Strike
 strike_of p = strike_by p.cut p.fault
@@ -45,11 +48,11 @@ unplanned = record { cut = None; fault = None }
 
 -- a new cut, in the place of the old one
 abbrev pub with_cut : Plans → ℕ → ℕ → Plans
-with_cut p n how = record { cut = Some (record { left = n; keeps = nat_eq how 3 }); fault = p.fault }
+with_cut p n how = record { cut = Some (record { left = n; how = how }); fault = p.fault }
 
--- a new fault, where one is planned by that kind, in the place of the old one
+-- a new fault, in the place of the old one
 abbrev pub with_fault : Plans → ℕ → ℕ → Plans
-with_fault p kind n = record { cut = p.cut; fault = if nat_eq kind 1 then Some n else None }
+with_fault p kind n = record { cut = p.cut; fault = Some (record { kind = kind; left = n }) }
 
 -- ---- what an end answers
 

@@ -1,9 +1,11 @@
 // The changes of open transactions.
 ghost use Rattle.std.specs.Prelude.{◌≡◌, ◌≤◌, ◌<◌, ◌||◌, ◌&&◌, not, nat_le, false, IfOk, OnOk, OnErr, option_copied, IfSome, is_none, position, option_map, map};
+ghost use Rattle.std.specs.Option.{ForSome};
 ghost use Rattle.std.specs.FinMap as objects;
-ghost use Rattle.kv_device.specs.Objects.{seen_through};
+ghost use Rattle.kv_device.specs.Objects.{seen_through, AreHeldChanges, IsHeldValue};
 ghost use Rattle.kv_device.specs.Machine.{change_count};
 
+use crate::held::{key_is_held, value_is_held};
 use crate::key_map::KeyMap;
 use kv_base::{Key, Memory, Value};
 use std::alloc::Global;
@@ -15,6 +17,7 @@ pub type Changes = KeyMap<Option<Value>>;
 pub struct Open {
     pub changes: Changes,
     ghost few: { objects.len changes ≤ 640 },
+    ghost held: { AreHeldChanges changes },
 }
 
 impl Open {
@@ -42,10 +45,8 @@ impl Open {
         ensures ok { OnOk result (self.new.changes ≡ objects.insert self.old.changes key.now (option_copied value.entry)) }
         ensures err { OnErr result (self.new.changes ≡ self.old.changes) }
     {
-        let change = match value {
-            Some(value) => Some(value.copy(alloc)?),
-            None => None,
-        };
+        let change = copy_of(alloc, value)?;
+        key_is_held(key);
         self.changes.insert(key.copy(alloc)?, change)?;
         Ok(())
     }
@@ -67,6 +68,20 @@ impl Open {
                 None => Ok(None),
             },
         }
+    }
+}
+
+// A copy of a value, where there is one.
+fn copy_of(alloc: Global, value: Option<&Value>) -> Result<Option<Value>, Memory>
+    ensures same { IfOk result (λ change. change ≡ option_copied value.entry) }
+    ensures held { IfOk result (λ change. ForSome change IsHeldValue) }
+{
+    match value {
+        Some(value) => {
+            value_is_held(value);
+            Ok(Some(value.copy(alloc)?))
+        }
+        None => Ok(None),
     }
 }
 

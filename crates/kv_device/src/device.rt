@@ -1,6 +1,7 @@
 // A device that keeps objects, with transactions.
 ghost use Rattle.std.specs.Prelude.{◌≡◌, ◌≤◌, ◌<◌, ◌-◌, ◌^◌, ℕ, IfOk, OnOk, IfErr};
 ghost use Rattle.kv_base.specs.Counts.{one_more};
+ghost use Rattle.kv_device.specs.Asked.{Asked, asks_cut, asks_fault};
 ghost use Rattle.kv_device.specs.Machine.{Machine, with_most_cuts, with_most_faults};
 ghost use Rattle.kv_device.specs.Calls.{BeginDone, BeginFault, GetDone, ReadFault, SetDone, SetFault, DeleteDone, DeleteFault, IterateDone, EndDone, EndFault, AbortDone, AbortFault, WorkDone, WorkFault, IsSound, Ages, set_ages};
 
@@ -20,6 +21,9 @@ pub trait Device {
 
     /// The greatest number that it has written.
     ghost age: { Self → ℕ };
+
+    /// What is planned for it, and the work that it was asked for last.
+    ghost asked: { Self → Asked };
 
     fn limits(&self) -> (u32, u32)
         ensures keys { result.0 ≡ (machine self.now).room_keys }
@@ -80,7 +84,8 @@ pub trait Device {
         requires { age self.old < 2 ^ 63 - 2 ^ 38 }
         ensures ok { OnOk result (WorkDone (machine self.old) (machine self.new)) }
         ensures err { IfErr result (λ fault. WorkFault (machine self.old) fault (machine self.new)) }
-        ensures age { Ages (age self.old) (age self.new) (2 ^ 20) };
+        ensures age { Ages (age self.old) (age self.new) (2 ^ 20) }
+        ensures asked { (asked self.new).work ≡ operations };
 
     ghost sound: { (device : Self) → IsSound (machine device) };
 }
@@ -93,6 +98,7 @@ pub trait PlannedDevice: Device {
         requires n { 1 ≤ n }
         requires how { how ≤ 3 }
         ensures planned { Self.machine self.new ≡ with_most_cuts (Self.machine self.old) }
+        ensures asked { Self.asked self.new ≡ asks_cut (Self.asked self.old) n how }
         ensures age { Self.age self.new ≡ Self.age self.old };
 
     /// The n-th operation from now of that kind fails: 0 reading, 1 programming, 2 erasing.
@@ -102,5 +108,6 @@ pub trait PlannedDevice: Device {
         ensures planned { Self.machine self.new ≡ with_most_faults (Self.machine self.old) (Self.machine self.new).most_faults }
         ensures fewest { (Self.machine self.old).faults ≤ (Self.machine self.new).most_faults }
         ensures most { (Self.machine self.new).most_faults ≤ one_more (Self.machine self.old).faults }
+        ensures asked { Self.asked self.new ≡ asks_fault (Self.asked self.old) kind n }
         ensures age { Self.age self.new ≡ Self.age self.old };
 }

@@ -5,7 +5,7 @@ ghost use Rattle.std.specs.FinMap as objects;
 ghost use Rattle.kv_device.specs.Objects.{page_count};
 
 use crate::changes::{Open, change_total, first_free};
-use crate::plans::{CutPlan, Plans, Strike};
+use crate::plans::{CutPlan, FaultPlan, Plans, Strike};
 use crate::store::Store;
 use crate::{Device, DeviceFault, PlannedDevice, TxId};
 use kv_base::{Key, Memory, Pairs, Value};
@@ -21,6 +21,8 @@ pub struct MapDevice {
     most_cuts: u64,
     most_faults: u64,
     plans: Plans,
+    /// How many operations the last work was asked for.
+    operations: u32,
     stable: Store,
     pending: [Option<Open>; 4],
     room_keys: u32,
@@ -60,6 +62,7 @@ impl MapDevice {
                 cut: None,
                 fault: None,
             },
+            operations: 0,
             stable: Store::new(alloc),
             pending: [None, None, None, None],
             room_keys: keys,
@@ -270,13 +273,15 @@ impl MapDevice {
 }
 
 impl Device for MapDevice {
-    ghost use Rattle.kv_device.specs.MapDevice.{machine_of, marks_of, plans_of, machine_of-sound};
+    ghost use Rattle.kv_device.specs.MapDevice.{machine_of, marks_of, plans_of, asked_of, machine_of-sound};
     ghost use Rattle.kv_device.specs.Plans.{strike_at, plans_after, IsStruck};
     ghost use Rattle.kv_device.specs.Calls.{GetDone, ReadFault, SetDone, SetFault, DeleteDone, DeleteFault, IterateDone, EndDone, EndFault, WorkDone, WorkFault, BeginDone, BeginFault, AbortDone, AbortFault};
 
     ghost machine = { machine_of };
 
     ghost age = { λ _. 0 };
+
+    ghost asked = { asked_of };
 
     ghost sound = { machine_of-sound };
 
@@ -401,11 +406,13 @@ impl Device for MapDevice {
         }
     }
 
-    fn work(&mut self, _alloc: Global, _operations: u32) -> Result<(), DeviceFault>
+    fn work(&mut self, _alloc: Global, operations: u32) -> Result<(), DeviceFault>
         ensures ok { OnOk result (WorkDone (machine_of self.old) (machine_of self.new)) }
         ensures err { IfErr result (λ fault. WorkFault (machine_of self.old) fault (machine_of self.new)) }
         ensures marks { marks_of self.new ≡ marks_of self.old }
+        ensures asked { (asked_of self.new).work ≡ operations }
     {
+        self.operations = operations;
         if self.up {
             Ok(())
         } else {
@@ -417,7 +424,8 @@ impl Device for MapDevice {
 impl PlannedDevice for MapDevice {
     ghost use Rattle.std.specs.Prelude.{if◌then◌else◌, nat_eq};
     ghost use Rattle.kv_device.specs.Machine.{with_most_cuts, with_most_faults};
-    ghost use Rattle.kv_device.specs.MapDevice.{machine_of, plans_of};
+    ghost use Rattle.kv_device.specs.Asked.{asks_cut, asks_fault};
+    ghost use Rattle.kv_device.specs.MapDevice.{machine_of, plans_of, asked_of};
     ghost use Rattle.kv_device.specs.Plans.{with_cut, with_fault};
 
     /// Power is cut in the n-th call of `end` from now that has changes and isn't refused. Its
@@ -425,24 +433,23 @@ impl PlannedDevice for MapDevice {
     fn plan_cut(&mut self, n: u32, how: u8)
         ensures planned { machine_of self.new ≡ with_most_cuts (machine_of self.old) }
         ensures plans { plans_of self.new ≡ with_cut (plans_of self.old) n how }
+        ensures asked { asked_of self.new ≡ asks_cut (asked_of self.old) n how }
     {
         self.most_cuts = self.cuts.saturating_add(1);
-        self.plans.cut = Some(CutPlan {
-            left: n,
-            keeps: how == 3,
-        });
+        self.plans.cut = Some(CutPlan { left: n, how });
     }
 
-    /// The n-th such call of `end` fails and keeps nothing where `kind` is 1; another kind plans
-    /// nothing. What was planned before is dropped.
+    /// The n-th such call of `end` fails and keeps nothing where `kind` is 1; a fault of another kind
+    /// never comes. What was planned before is dropped.
     fn plan_fail(&mut self, kind: u8, n: u32)
         ensures planned { machine_of self.new ≡ with_most_faults (machine_of self.old) (machine_of self.new).most_faults }
         ensures fewest { (machine_of self.old).faults ≤ (machine_of self.new).most_faults }
         ensures most { (machine_of self.new).most_faults ≤ one_more (machine_of self.old).faults }
         ensures bound { (machine_of self.new).most_faults ≡ one_more (machine_of self.old).faults }
         ensures plans { plans_of self.new ≡ with_fault (plans_of self.old) kind n }
+        ensures asked { asked_of self.new ≡ asks_fault (asked_of self.old) kind n }
     {
         self.most_faults = self.faults.saturating_add(1);
-        self.plans.fault = if kind == 1 { Some(n) } else { None };
+        self.plans.fault = Some(FaultPlan { kind, left: n });
     }
 }

@@ -7,8 +7,17 @@ ghost use Rattle.kv_device.specs.Plans.{cut_after, fault_after, fault_strike, pa
 pub struct CutPlan {
     /// How many calls of `end` that count are left until it comes, the cut one included.
     pub left: u32,
-    /// Whether the changes of that call are kept.
-    pub keeps: bool,
+    /// How the cut leaves that call: with its changes kept where it is 3, else lost.
+    pub how: u8,
+}
+
+/// A planned fault.
+#[derive(Clone, Copy, Debug)]
+pub struct FaultPlan {
+    /// The kind of the operation that is to fail. Only one of kind 1 comes.
+    pub kind: u8,
+    /// How many calls of `end` that count are left until one fails, that one included.
+    pub left: u32,
 }
 
 /// A planned failure that comes.
@@ -22,8 +31,7 @@ pub enum Strike {
 #[derive(Clone, Copy, Debug)]
 pub struct Plans {
     pub cut: Option<CutPlan>,
-    /// How many calls of `end` that count are left until one fails, that one included.
-    pub fault: Option<u32>,
+    pub fault: Option<FaultPlan>,
 }
 
 impl Plans {
@@ -40,13 +48,15 @@ impl Plans {
 }
 
 // A cut comes before a fault.
-fn strike_by(cut: Option<CutPlan>, fault: Option<u32>) -> Option<Strike>
+fn strike_by(cut: Option<CutPlan>, fault: Option<FaultPlan>) -> Option<Strike>
     ensures { result ≡ strike_by cut fault }
 {
     match cut {
         Some(plan) => {
             if plan.left <= 1 {
-                Some(Strike::Cut { keeps: plan.keeps })
+                Some(Strike::Cut {
+                    keeps: plan.how == 3,
+                })
             } else {
                 fault_strike(fault)
             }
@@ -55,11 +65,17 @@ fn strike_by(cut: Option<CutPlan>, fault: Option<u32>) -> Option<Strike>
     }
 }
 
-fn fault_strike(left: Option<u32>) -> Option<Strike>
-    ensures { result ≡ fault_strike left }
+fn fault_strike(fault: Option<FaultPlan>) -> Option<Strike>
+    ensures { result ≡ fault_strike fault }
 {
-    match left {
-        Some(left) => { if left <= 1 { Some(Strike::Fault) } else { None } }
+    match fault {
+        Some(plan) => {
+            if plan.kind == 1 && plan.left <= 1 {
+                Some(Strike::Fault)
+            } else {
+                None
+            }
+        }
         None => None,
     }
 }
@@ -72,7 +88,7 @@ fn cut_after(plan: Option<CutPlan>) -> Option<CutPlan>
             if plan.left > 1 {
                 Some(CutPlan {
                     left: plan.left - 1,
-                    keeps: plan.keeps,
+                    how: plan.how,
                 })
             } else {
                 None
@@ -82,11 +98,22 @@ fn cut_after(plan: Option<CutPlan>) -> Option<CutPlan>
     }
 }
 
-fn fault_after(left: Option<u32>) -> Option<u32>
-    ensures { result ≡ fault_after left }
+fn fault_after(plan: Option<FaultPlan>) -> Option<FaultPlan>
+    ensures { result ≡ fault_after plan }
 {
-    match left {
-        Some(left) => { if left > 1 { Some(left - 1) } else { None } }
+    match plan {
+        Some(plan) => {
+            if plan.kind != 1 {
+                Some(plan)
+            } else if plan.left > 1 {
+                Some(FaultPlan {
+                    kind: plan.kind,
+                    left: plan.left - 1,
+                })
+            } else {
+                None
+            }
+        }
         None => None,
     }
 }

@@ -1,7 +1,7 @@
 // The objects that stand in a device in memory.
 ghost use Rattle.std.specs.Prelude.{◌≡◌, ◌≤◌, ◌<◌, ◌^◌, map, take, IfOk, OnOk, OnErr};
 ghost use Rattle.std.specs.FinMap as objects;
-ghost use Rattle.kv_device.specs.Objects.{page_count, seen_through, pairs_from, pair_of};
+ghost use Rattle.kv_device.specs.Objects.{page_count, seen_through, pairs_from, pair_of, AreHeld, AreHeldChanges};
 
 use crate::changes::Changes;
 use crate::key_map::KeyMap;
@@ -14,6 +14,7 @@ pub struct Store {
     pub map: KeyMap<Value>,
     pub pages: usize,
     ghost paged: { pages ≡ page_count map },
+    ghost held: { AreHeld map },
 }
 
 impl Store {
@@ -45,16 +46,13 @@ impl Store {
     pub fn apply(&mut self, alloc: Global, changes: &Changes) -> Result<(), Memory>
         requires few { objects.len changes.now ≤ 640 }
         requires small { objects.len self.old.map < 2 ^ 32 }
+        requires held { AreHeldChanges changes.now }
         ensures ok { OnOk result (self.new.map ≡ seen_through changes.now self.old.map) }
         ensures err { OnErr result (self.new.map ≡ self.old.map) }
     {
         let size = self.size_after(changes);
-        match changes.apply_to(alloc, &mut self.map) {
-            Ok(()) => {
-                self.pages = size.pages;
-                Ok(())
-            }
-            Err(fault) => Err(fault),
-        }
+        changes.apply_to(alloc, &mut self.map)?;
+        self.pages = size.pages;
+        Ok(())
     }
 }

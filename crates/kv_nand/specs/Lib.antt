@@ -1,4 +1,5 @@
 pub mod Faults
 pub mod Flash
 pub mod Calls
+pub mod Planned
 pub mod Working

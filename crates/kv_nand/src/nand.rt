@@ -1,6 +1,7 @@
 ghost use Rattle.std.specs.Prelude.{◌≡◌, ◌≤◌, ◌<◌, ◌*◌, ℕ, true, IfOk, OnOk, IfErr, IsErrOf, slice_index};
 ghost use Rattle.kv_nand.specs.Flash.{Flash, MayProgram, LeftByProgram, LeftByErase, IsSound};
 ghost use Rattle.kv_nand.specs.Calls.{programmed, erased, powered_on, with_most_cuts, ReadDone, ReadFault, Falls, MayFail, PlansFault};
+ghost use Rattle.kv_nand.specs.Planned.{Planned, with_cut, with_fault};
 
 use crate::NandFault;
 use kv_base::PageData;
@@ -90,13 +91,18 @@ pub trait Nand {
 
 /// A flash that can be told when power is cut and when an operation fails.
 pub trait PlannedNand: Nand {
+    /// The cut and the fault that are planned for it.
+    ghost planned: { Self → Planned };
+
     /// Plans a cut of the n-th program or erase from now.
     fn plan_cut(&mut self, n: u32, outcome: Outcome)
         requires { 1 ≤ n }
-        ensures { Self.flash self.new ≡ with_most_cuts (Self.flash self.old) };
+        ensures bound { Self.flash self.new ≡ with_most_cuts (Self.flash self.old) }
+        ensures planned { planned self.new ≡ with_cut (planned self.old) n outcome };
 
     /// Plans a fault of the n-th operation of a kind from now.
     fn plan_fail(&mut self, kind: OpKind, n: u32)
         requires { 1 ≤ n }
-        ensures { PlansFault (Self.flash self.old) kind (Self.flash self.new) };
+        ensures bound { PlansFault (Self.flash self.old) kind (Self.flash self.new) }
+        ensures planned { planned self.new ≡ with_fault (planned self.old) kind n };
 }

@@ -1,7 +1,8 @@
 -- Plans of a cut and of a fault.
-use Rattle.std.specs.Prelude.{◌-◌, Bool, true, false, not, ◌&&◌, nat_le, Option, Some, None, if◌then◌else◌}
+use Rattle.std.specs.Prelude.{◌-◌, Bool, true, false, not, ◌&&◌, nat_le, Option, Some, None, if◌then◌else◌, option_map}
 use Rattle.kv_nand.specs.declared.nand.OpKind.{OpKind}
 use Rattle.kv_nand.specs.declared.nand.OpKind.TheVariants.{Read, Program, Erase}
+use Rattle.kv_nand.specs.Planned.{Planned, PlannedCut, PlannedFault}
 use Rattle.nand_mem.specs.declared.plan.CutPlan.{CutPlan}
 use Rattle.nand_mem.specs.declared.plan.FailPlan.{FailPlan}
 use Rattle.nand_mem.specs.declared.plan.Fate.{Fate}
@@ -43,3 +44,13 @@ abbrev pub fail_after : OpKind → Option FailPlan → Option FailPlan
 fail_after kind None = None
 fail_after kind (Some plan) =
     if not (same_kind plan.kind kind) then Some plan else (if nat_le plan.n 1 then None else Some (record { kind = plan.kind; n = plan.n - 1 }))
+
+abbrev pub cut_in : CutPlan → PlannedCut
+cut_in plan = record { n = plan.n; outcome = plan.outcome }
+
+abbrev pub fault_in : FailPlan → PlannedFault
+fault_in plan = record { kind = plan.kind; n = plan.n }
+
+-- what is planned, as any flash tells it
+abbrev pub planned_by : Option CutPlan → Option FailPlan → Planned
+planned_by cut fail = record { cut = option_map cut_in cut; fault = option_map fault_in fail }

@@ -140,10 +140,15 @@ impl Nand for MemNand {
 
 impl PlannedNand for MemNand {
     ghost use Rattle.nand_mem.specs.MemNand.{mem};
+    ghost use Rattle.nand_mem.specs.Plans.{planned_by};
+    ghost use Rattle.kv_nand.specs.Planned.{with_cut, with_fault};
+
+    ghost planned = { λ nand. planned_by nand.state.cut nand.state.fail };
 
     fn plan_cut(&mut self, n: u32, outcome: Outcome)
         requires { 1 ≤ n }
         ensures bound { (mem self.new).flash ≡ with_most_cuts (mem self.old).flash }
+        ensures planned { planned_by (mem self.new).cut (mem self.new).fail ≡ with_cut (planned_by (mem self.old).cut (mem self.old).fail) n outcome }
         ensures exact { mem self.new ≡ planned_cut (mem self.old) n outcome }
     {
         self.state.most_cuts = up(self.state.cuts);
@@ -153,6 +158,7 @@ impl PlannedNand for MemNand {
     fn plan_fail(&mut self, kind: OpKind, n: u32)
         requires { 1 ≤ n }
         ensures bound { PlansFault (mem self.old).flash kind (mem self.new).flash }
+        ensures planned { planned_by (mem self.new).cut (mem self.new).fail ≡ with_fault (planned_by (mem self.old).cut (mem self.old).fail) kind n }
         ensures exact { mem self.new ≡ planned_fault (mem self.old) kind n }
     {
         self.state.most_faults = up(self.state.faults);

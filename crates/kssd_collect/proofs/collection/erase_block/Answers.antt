@@ -2,7 +2,7 @@ use Rattle.std.proofs.lemmas.Result.{err_from_is_err_and}
 use Rattle.kv_nand.proofs.Chaining.{falls_stops, falls_blocks, erased_works, works_blocks}
 use Rattle.kssd_reclaim.specs.Reclaim.{block_of}
 use Rattle.kssd_machine.proofs.Remaining.{block_after_clear}
-use Rattle.kssd_collect.proofs.Kept.{stands_from, objects_kept, leaves_kept, busy_kept, machine_kept, room_after}
+use Rattle.kssd_collect.proofs.Kept.{stands_from, objects_kept, leaves_kept, busy_kept, machine_kept, room_after, frees}
 use Rattle.kssd_collect.proofs.collection.erase_block.Goals as goal
 
 pub returns-in_err-finish-clause-objects : goal.returns-in_err-finish-clause-objects
@@ -41,6 +41,9 @@ returns-clause-machine g c =
 
 pub returns-clause-room : goal.returns-clause-room
 returns-clause-room g c = room_after c.args.reclaim c.args.mounted.now (g.N.Nand.flash c.args.nand.now) c.finish.new.values (block_of c.args.reclaim) c.requires.emptied c.in_ok-finish.ensures.ok
+
+pub returns-clause-frees : goal.returns-clause-frees
+returns-clause-frees g c = frees c.args.reclaim c.args.mounted.now (g.N.Nand.flash c.args.nand.now) c.finish.new.values (block_of c.args.reclaim) c.requires.emptied c.in_ok-finish.ensures.ok
 
 pub returns-clause-objects : goal.returns-clause-objects
 returns-clause-objects g c = objects_kept c.args.mounted.now (g.N.Nand.flash c.args.nand.now) (g.N.Nand.flash c.finish.new.nand) c.requires.emptied.busy c.in_ok-finish.ensures.keeps

@@ -1,8 +1,10 @@
-use Rattle.std.proofs.Common.{◌≡◌, ◌∙◌, true, refl, sym, subst, arith}
-use Rattle.kv_nand.proofs.Chaining.{works_blocks, stops_blocks}
+use Rattle.std.proofs.Common.{◌≡◌, ◌∙◌, true, refl, sym, ap, subst, arith}
+use Rattle.std.proofs.lemmas.Result.{err_from_is_err_and}
+use Rattle.kv_nand.proofs.Chaining.{works_blocks, stops_blocks, works_within, stops_within}
 use Rattle.kssd_index.proofs.Anchored.{aged_still}
+use Rattle.kssd_index.specs.Costs.{has_place_in}
 use Rattle.kssd_machine.specs.Names.{are_valued}
-use Rattle.kssd_collect.proofs.Named.{AreOrdered, few, rising, keys_low, pages_low, objects_logged, leaves_logged, machine_logged, copies_stand, stand_still, copies_dead, visible_marked, copies_hold, pending_valued, emptied}
+use Rattle.kssd_collect.proofs.Named.{AreOrdered, few, rising, group_short, keys_low, pages_low, objects_logged, leaves_logged, machine_logged, copies_stand, stand_still, copies_dead, visible_marked, copies_hold, pending_valued, emptied}
 use Rattle.kssd_collect.proofs.collection.name_copies.Goals as goal
 
 pub returns-in_err-moves-clause-leaves : goal.returns-in_err-moves-clause-leaves
@@ -93,3 +95,27 @@ returns-clause-leaves g c =
     let new = g.N.Nand.flash c.log_entries.new.nand in
     leaves_logged c.args.reclaim.now c.args.mounted.now old new c.in_ok-moves.moves _ (record { copied = c.requires.copied; is = c.in_ok-moves.ensures.value; fits = c.in_ok-moves.ensures.fits; sound = g.met.N.Nand.sound c.args.nand.now }) c.in_ok-log_entries.ensures.kept
     (works_blocks old new _ _ c.in_ok-log_entries.ensures.works) c.in_ok-log_entries.ensures.aged c.in_ok-log_entries.ensures.ages
+
+pub returns-in_err-log_entries-clause-placed_stops : goal.returns-in_err-log_entries-clause-placed_stops
+returns-in_err-log_entries-clause-placed_stops g c place =
+    let old = g.N.Nand.flash c.args.nand.now in
+    let new = g.N.Nand.flash c.log_entries.new.nand in
+    let m = c.args.mounted.now in
+    let es = c.in_ok-moves.moves in
+    let has : has_place_in m.index es ≡ true = ap (has_place_in m.index) c.in_ok-moves.ensures.value ∙ place in
+    let short = group_short c.args.reclaim.now m old es (record { copied = c.requires.copied; is = c.in_ok-moves.ensures.value; fits = c.in_ok-moves.ensures.fits; sound = g.met.N.Nand.sound c.args.nand.now }) in
+    let p = err_from_is_err_and c.from_residual-in_err-log_entries.result c.from_residual-in_err-log_entries.ensures.1 in
+    rw (p.1, p.2) (stops_within old new _ _ 0 3 0 (c.in_err-log_entries.ensures.placed_stops has) short (omega arith))
+
+pub returns-clause-placed : goal.returns-clause-placed
+returns-clause-placed g c place =
+    let old = g.N.Nand.flash c.args.nand.now in
+    let new = g.N.Nand.flash c.log_entries.new.nand in
+    let m = c.args.mounted.now in
+    let es = c.in_ok-moves.moves in
+    let has : has_place_in m.index es ≡ true = ap (has_place_in m.index) c.in_ok-moves.ensures.value ∙ place in
+    let short = group_short c.args.reclaim.now m old es (record { copied = c.requires.copied; is = c.in_ok-moves.ensures.value; fits = c.in_ok-moves.ensures.fits; sound = g.met.N.Nand.sound c.args.nand.now }) in
+    works_within old new _ 0 3 0 (c.in_ok-log_entries.ensures.placed has) short (omega arith)
+
+pub move_visible-requires : goal.move_visible-requires
+move_visible-requires g c = record { copies = copies_stand c.args.reclaim.now c.args.mounted.now (g.N.Nand.flash c.args.nand.now) c.requires.copied }

@@ -1,6 +1,6 @@
 use Rattle.std.proofs.Common.{List, [], length, take, ap, inr, arith, length-take}
 use Rattle.kssd_entry.specs.declared.entry.Entry.{Entry}
-use Rattle.kssd_index.proofs.Counting.{merged_few}
+use Rattle.kssd_root.proofs.Counting.{merged_few}
 use Rattle.kssd_collect.proofs.logging.in_order.Goals as goal
 
 pub put-requires : goal.put-requires

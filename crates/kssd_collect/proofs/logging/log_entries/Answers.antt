@@ -1,7 +1,10 @@
-use Rattle.std.proofs.Common.{◌∙◌, sym}
+use Rattle.std.proofs.Common.{◌∙◌, sym, arith}
+use Rattle.std.proofs.lemmas.Result.{err_from_is_err_and}
+use Rattle.kv_nand.proofs.Chaining.{works_then_stops, stops_within}
 use Rattle.kssd_index.proofs.Anchored.{aged_still}
 use Rattle.kssd_index.proofs.Beside.{index_before_still}
-use Rattle.kssd_collect.proofs.Logged.{none_logged}
+use Rattle.kssd_index.specs.Costs.{group_cost}
+use Rattle.kssd_collect.proofs.Logged.{none_logged, few_for_group, kept_then_either}
 use Rattle.kssd_collect.proofs.logging.log_entries.Goals as goal
 
 pub returns-then-len-eq0-clause-shown : goal.returns-then-len-eq0-clause-shown
@@ -12,3 +15,23 @@ returns-then-len-eq0-clause-kept g c = index_before_still c.args.index.now _ _ _
 
 pub returns-then-len-eq0-clause-aged : goal.returns-then-len-eq0-clause-aged
 returns-then-len-eq0-clause-aged g c = aged_still c.args.index.now _ _ c.requires.stands
+
+pub returns-in_err-append-clause-kept : goal.returns-in_err-append-clause-kept
+returns-in_err-append-clause-kept g c =
+    let flash = g.N.Nand.flash in
+    kept_then_either (flash c.args.nand.now) (flash c.find_place.new.nand) (flash c.append.new.nand) _ _ c.args.entries.now c.in_ok-find_place.ensures.works c.in_ok-find_place.ensures.kept c.in_err-append.ensures.kept
+
+pub returns-in_err-append-clause-stops : goal.returns-in_err-append-clause-stops
+returns-in_err-append-clause-stops g c =
+    let flash = g.N.Nand.flash in
+    let mid = flash c.find_place.new.nand in
+    let found = c.in_ok-find_place.ensures in
+    let few = few_for_group c.find_place.new.index mid.blocks mid.image c.args.entries.now found.stands found.place in
+    let p = err_from_is_err_and c.from_residual-in_err-append.result c.from_residual-in_err-append.ensures.1 in
+    rw (p.1, p.2) (stops_within (flash c.args.nand.now) (flash c.append.new.nand) _ _ _ _ _
+    (works_then_stops (flash c.args.nand.now) mid (flash c.append.new.nand) _ _ _ (group_cost c.find_place.new.index c.args.entries.now) 0 found.works c.in_err-append.ensures.stops) (omega (arith, few)) (omega arith))
+
+pub returns-clause-kept : goal.returns-clause-kept
+returns-clause-kept g c =
+    let flash = g.N.Nand.flash in
+    kept_then_either (flash c.args.nand.now) (flash c.find_place.new.nand) (flash c.append.new.nand) _ _ c.args.entries.now c.in_ok-find_place.ensures.works c.in_ok-find_place.ensures.kept c.in_ok-append.ensures.kept

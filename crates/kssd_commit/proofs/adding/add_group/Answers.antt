@@ -1,4 +1,5 @@
-use Rattle.kssd_index.specs.Costs.{group_cost, most_place_cost}
+use Rattle.kssd_root.specs.Costs.{most_place_cost}
+use Rattle.kssd_index.specs.Costs.{group_cost}
 use Rattle.kssd_commit.proofs.Grouped.{few_for_group, kept_then_either, stops_then}
 use Rattle.kssd_commit.proofs.adding.add_group.Goals as goal
 

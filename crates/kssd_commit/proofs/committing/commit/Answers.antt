@@ -48,7 +48,7 @@ returns-clause-stands g c =
     let old = g.N.Nand.flash c.args.nand.now in
     let new = g.N.Nand.flash c.add_group.new.nand in
     let room = room_after c.args.mounted.now old c.args.tx.0 c.args.judged c.requires.stands c.requires.judged c.requires.room (g.met.N.Nand.sound c.args.nand.now) in
-    subst (λ (l : Transactions). Stands (record { index = c.add_group.new.index; values = c.mark_pages.new.values; changes = l; keys = c.args.judged.keys; pages = c.args.judged.pages }) new) (sym c.in_ok-entries.ensures.ok)
+    subst (λ (l : Transactions). Stands (record { index = c.add_group.new.index; values = c.mark_pages.new.values; changes = l; collection = c.args.mounted.now.collection; keys = c.args.judged.keys; pages = c.args.judged.pages }) new) (sym c.in_ok-entries.ensures.ok)
     (stands_then c.args.mounted.now old c.args.tx.0 c.args.judged c.requires.stands c.requires.judged room new c.in_ok-entries.entries c.add_group.new.index c.mark_pages.new.values _ _ (g.met.N.Nand.sound c.args.nand.now)
     c.in_ok-entries.ensures.value c.in_ok-add_group.ensures.works c.in_ok-add_group.ensures.stands c.in_ok-add_group.ensures.kept c.in_ok-add_group.ensures.shown c.mark_pages.ensures.marks c.mark_pages.ensures.places)
 

@@ -49,3 +49,6 @@ returns-in-Err-commit-clause-err g c =
 
 pub returns-in-Err-commit-clause-refused : goal.returns-in-Err-commit-clause-refused
 returns-in-Err-commit-clause-refused g c = down_is_up c.in-Err-commit.fault c.device_fault-in-Err-commit.result c.device_fault-in-Err-commit.ensures
+
+pub returns-in-Err-commit-clause-untouched : goal.returns-in-Err-commit-clause-untouched
+returns-in-Err-commit-clause-untouched g c = down_is_up c.in-Err-commit.fault c.device_fault-in-Err-commit.result c.device_fault-in-Err-commit.ensures

@@ -2,7 +2,7 @@ use Rattle.std.proofs.Common.{◌∙◌, not, List, length, sym, ap, arith}
 use Rattle.std.proofs.lemmas.List.{take_all}
 use Rattle.kssd_entry.specs.declared.entry.Entry.{Entry}
 use Rattle.kssd_model.specs.Rising.{merged, is_rising, find_entry}
-use Rattle.kssd_index.proofs.Counting.{count_more, new_where_none, old_where_some}
+use Rattle.kssd_root.proofs.Counting.{count_more, new_where_none, old_where_some}
 use Rattle.kssd_index.proofs.append.len_with.Goals as goal
 use Rattle.kssd_index.proofs.append.len_with.Goals.{then-is_none, else-is_none}
 

@@ -1,5 +1,5 @@
 use Rattle.std.proofs.Common.{refl, arith}
-use Rattle.kssd_index.proofs.Anchored.{kept_still}
+use Rattle.kssd_root.proofs.Anchored.{kept_still}
 use Rattle.kssd_mount.proofs.mounting.index_of.Goals as goal
 
 pub returns-in_err-index-clause-settled : goal.returns-in_err-index-clause-settled
@@ -21,3 +21,8 @@ returns-in_ok-index-clause-settled g c =
       age = omega arith;
       idle = λ is. record { image = refl; ops = refl };
     }
+
+pub returns-in_ok-index-clause-stands : goal.returns-in_ok-index-clause-stands
+returns-in_ok-index-clause-stands g c =
+    let old = g.N.Nand.flash c.args.nand.now in
+    c.in_ok-index.ensures.stands old.blocks old.image c.requires.parts

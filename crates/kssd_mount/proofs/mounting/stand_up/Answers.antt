@@ -1,4 +1,4 @@
-use Rattle.kssd_index.proofs.Logs.{has_bytes}
+use Rattle.kssd_root.proofs.Logs.{has_bytes}
 use Rattle.kssd_mount.proofs.Numbers.{far_from_end}
 use Rattle.kssd_mount.proofs.Settling.{index_parts, parts_fit, stands}
 use Rattle.kssd_mount.proofs.mounting.stand_up.Goals as goal

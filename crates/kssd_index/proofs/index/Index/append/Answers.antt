@@ -1,6 +1,6 @@
 use Rattle.std.proofs.Common.{ap, arith}
 use Rattle.kv_nand.specs.Flash.{Flash}
-use Rattle.kssd_index.proofs.Logs.{has_bytes}
+use Rattle.kssd_root.proofs.Logs.{has_bytes}
 use Rattle.kssd_index.proofs.Appending.{may_append, left_appended, appended, stands_behind, aged_behind}
 use Rattle.kssd_index.proofs.index.Index.append.Goals as goal
 

@@ -1,4 +1,4 @@
-use Rattle.kssd_index.proofs.Beginning.{opened}
+use Rattle.kssd_index.proofs.Opening.{opened}
 use Rattle.kssd_index.proofs.index.Index.open.Goals as goal
 
 pub returns-clause-stands : goal.returns-clause-stands

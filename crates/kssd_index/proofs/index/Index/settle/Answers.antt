@@ -1,5 +1,5 @@
 use Rattle.std.proofs.Common.{arith}
-use Rattle.kssd_index.proofs.Anchored.{age_is, kept_still}
+use Rattle.kssd_root.proofs.Anchored.{age_is, kept_still}
 use Rattle.kssd_index.proofs.Placing.{placed}
 use Rattle.kssd_index.proofs.index.Index.settle.Goals as goal
 
@@ -34,7 +34,7 @@ returns-clause-stands g c =
     let h = c.requires.parts in
     let age = age_is parts.page parts.anchor old.image h.anchored.newest in
     let new = g.N.Nand.flash c.flush.new.nand in
-    let p = placed c.flush.new.self c.in_ok-table.table c.in_ok-ring.ring _ c.seq.result c.greatest_number-age.result new.blocks new.image c.in_ok-ring.ensures.root c.in_ok-table.ensures c.in_ok-ring.ensures.ring c.in_ok-ring.ensures.log c.in_ok-ring.ensures.table c.seq.ensures.number c.greatest_number-age.ensures in
+    let p = placed c.flush.new.self c.in_ok-table.table c.in_ok-ring.ring _ _ c.seq.result c.greatest_number-age.result new.blocks new.image c.in_ok-ring.ensures.root c.in_ok-table.ensures c.in_ok-ring.ensures.ring c.in_ok-ring.ensures.log c.in_ok-ring.ensures.table c.seq.ensures.number c.greatest_number-age.ensures in
     p.stands
 
 pub returns-clause-aged : goal.returns-clause-aged
@@ -52,5 +52,5 @@ returns-clause-age g c =
     let h = c.requires.parts in
     let age = age_is parts.page parts.anchor old.image h.anchored.newest in
     let new = g.N.Nand.flash c.flush.new.nand in
-    let p = placed c.flush.new.self c.in_ok-table.table c.in_ok-ring.ring _ c.seq.result c.greatest_number-age.result new.blocks new.image c.in_ok-ring.ensures.root c.in_ok-table.ensures c.in_ok-ring.ensures.ring c.in_ok-ring.ensures.log c.in_ok-ring.ensures.table c.seq.ensures.number c.greatest_number-age.ensures in
+    let p = placed c.flush.new.self c.in_ok-table.table c.in_ok-ring.ring _ _ c.seq.result c.greatest_number-age.result new.blocks new.image c.in_ok-ring.ensures.root c.in_ok-table.ensures c.in_ok-ring.ensures.ring c.in_ok-ring.ensures.log c.in_ok-ring.ensures.table c.seq.ensures.number c.greatest_number-age.ensures in
     omega (arith, age, p.age_is, c.flush.ensures.aged)

@@ -1,0 +1,17 @@
+pub mod Anchored
+pub mod Beginning
+pub mod Counting
+pub mod Steps
+pub mod Marks
+pub mod Kept
+pub mod Runs
+pub mod Logs
+pub mod RunsWritten
+pub mod RingBegun
+pub mod Naming
+pub mod Written
+pub mod Layers
+pub mod Installed
+pub mod Moving
+pub mod Splitting
+pub mod UnderWay

@@ -1,0 +1,5 @@
+pub mod Standing
+pub mod Mapping
+pub mod Costs
+pub mod Following
+pub mod UnderWay

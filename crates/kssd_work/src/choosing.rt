@@ -1,0 +1,17 @@
+// The job that is due.
+ghost use Rattle.kssd_work.specs.Working.{IsDue};
+
+use kssd_collect::collection_due;
+use kssd_levels::JobKind;
+use kssd_mounted::Mounted;
+
+/// The job that is due between calls.
+pub fn due(mounted: &Mounted) -> Option<JobKind>
+    ensures { IsDue mounted.now result }
+{
+    if collection_due(mounted) {
+        Some(JobKind::Collect)
+    } else {
+        None
+    }
+}

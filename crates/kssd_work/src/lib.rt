@@ -1,0 +1,9 @@
+//! The work between calls: what is due is done, with at most so many operations.
+#![tactic(auto)]
+
+mod choosing;
+mod collecting;
+mod working;
+
+pub use choosing::due;
+pub use working::work;
