@@ -46,6 +46,8 @@ impl<D: Device> Device for Cached<D> {
 
     ghost age = { λ cached. D.age cached.device };
 
+    ghost asked = { λ cached. D.asked cached.device };
+
     ghost sound = { λ cached. D.sound cached.device };
 
     fn limits(&self) -> (u32, u32) {

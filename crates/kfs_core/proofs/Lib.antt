@@ -33,6 +33,7 @@ pub mod Weights
 pub mod NamesAfter
 pub mod CuttingJudges
 pub mod Plans
+pub mod Refused
 pub mod InOrder
 pub mod Told
 pub mod Small

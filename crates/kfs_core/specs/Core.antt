@@ -19,6 +19,10 @@ run_in s = s.running.run
 abbrev pub Stays : KfsState → KfsState → Type 0
 Stays old new = new ≡ record old { running = new.running }
 
+-- nothing changes, but what the device has written and what is planned for it may
+abbrev pub Same : KfsState → KfsState → Type 0
+Same old new = new ≡ record old { running = record new.running { run = run_in old } }
+
 -- so many chunks more are taken, by the running transaction too
 abbrev pub Takes : KfsState → ℕ → KfsState → Type 0
 Takes old more new = new ≡ record old { running = new.running; charge = old.charge + more; chunks = old.chunks + more }

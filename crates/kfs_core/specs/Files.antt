@@ -16,7 +16,7 @@ use Rattle.kfs_file.specs.Contents as contents
 use Rattle.kfs_core.specs.declared.fault.CoreFault.{CoreFault}
 use Rattle.kfs_core.specs.declared.fault.CoreFault.TheVariants.{No, Device}
 use Rattle.kfs_core.specs.declared.room.Space.{Space}
-use Rattle.kfs_core.specs.Core.{KfsState, run_in, Stays, Takes}
+use Rattle.kfs_core.specs.Core.{KfsState, run_in, Stays, Takes, Same}
 use Rattle.kfs_core.specs.Flat.{inode_in}
 use Rattle.kfs_core.specs.Gives.{Fails}
 use Rattle.kfs_core.specs.Room.{space_in, chunks_for, fits_in, grown}
@@ -65,7 +65,7 @@ WriteFault old node size offset given fault new =
     ⊎ ChangeFault (with_length put node (grown size offset (length given))) (2 + spanned offset (length given)) put.next fault new))
 
 abbrev pub WriteFails : KfsState → ℕ → ℕ → List ℕ → CoreFault → KfsState → Type 0
-WriteFails old node offset given (No e) new = (write_in (seen (run_in old)) (space_in old) node offset (length given) ≡ Err e) × (new ≡ old)
+WriteFails old node offset given (No e) new = (write_in (seen (run_in old)) (space_in old) node offset (length given) ≡ Err e) × Same old new
 WriteFails old node offset given (Device fault) new =
     Stays old new × (
     GetFault (run_in old) fault (run_in new).machine

@@ -18,7 +18,7 @@ use Rattle.kfs_core.specs.declared.fault.CoreFault.{CoreFault}
 use Rattle.kfs_core.specs.declared.fault.CoreFault.TheVariants.{No, Device}
 pub use Rattle.kfs_core.specs.declared.removing.Leaf.{Leaf}
 pub use Rattle.kfs_core.specs.Room.{chunks_for}
-use Rattle.kfs_core.specs.Core.{KfsState, run_in, Stays}
+use Rattle.kfs_core.specs.Core.{KfsState, run_in, Stays, Same}
 use Rattle.kfs_core.specs.Flat.{Where, at_root, walk_in, found_in}
 use Rattle.kfs_core.specs.Making.{parent_of}
 
@@ -128,7 +128,7 @@ pub record Unlinked (old : KfsState) (judged : Result Leaf Errno) (is_open : ℕ
   pub frees : Frees old (keys_gone leaf (is_open leaf.node)) (chunks_gone leaf (is_open leaf.node)) new
 
 abbrev pub UnlinkFails : KfsState → Result Leaf Errno → (ℕ → Bool) → CoreFault → KfsState → Type 0
-UnlinkFails old judged is_open (No e) new = (judged ≡ Err e) × (new ≡ old)
+UnlinkFails old judged is_open (No e) new = (judged ≡ Err e) × Same old new
 UnlinkFails old judged is_open (Device fault) new =
     Stays old new × (GetFault (run_in old) fault (run_in new).machine ⊎ ((leaf : Leaf) × (judged ≡ Ok leaf) × UnlinkFault (run_in old) leaf (is_open leaf.node) fault (run_in new).machine))
 
@@ -157,7 +157,7 @@ pub record Released (old : KfsState) (node : ℕ) (judged : Result ℕ Errno) (n
   pub frees : Frees old (2 + chunks_for size) (chunks_for size) new
 
 abbrev pub ReleaseFails : KfsState → ℕ → Result ℕ Errno → CoreFault → KfsState → Type 0
-ReleaseFails old node judged (No e) new = (judged ≡ Err e) × (new ≡ old)
+ReleaseFails old node judged (No e) new = (judged ≡ Err e) × Same old new
 ReleaseFails old node judged (Device fault) new =
     Stays old new × (GetFault (run_in old) fault (run_in new).machine ⊎ ((size : ℕ) × (judged ≡ Ok size) × ReleaseFault (run_in old) node size fault (run_in new).machine))
 

@@ -18,7 +18,7 @@ use Rattle.kfs_file.specs.Contents.{Fails}
 use Rattle.kfs_core.specs.declared.fault.CoreFault.{CoreFault}
 use Rattle.kfs_core.specs.declared.fault.CoreFault.TheVariants.{No, Device}
 pub use Rattle.kfs_core.specs.declared.renaming.Move.{Move}
-use Rattle.kfs_core.specs.Core.{KfsState, run_in, Stays}
+use Rattle.kfs_core.specs.Core.{KfsState, run_in, Stays, Same}
 use Rattle.kfs_core.specs.Flat.{Where, at_root, walk_in, found_in}
 use Rattle.kfs_core.specs.Making.{parent_of}
 use Rattle.kfs_core.specs.Removing.{Leaf, Loses, Frees, leaf_at, has_names, chunks_gone, keys_gone}
@@ -135,11 +135,11 @@ MoveFault old move is_open fault new =
     ⊎ ((mid : Run) × Replaces old move.replaced is_open mid × ChangeFault (with_moved mid move) (4 + chunks_replaced move.replaced is_open) mid.next fault new)
 
 abbrev pub MovesTo : KfsState → Option Move → (ℕ → Bool) → KfsState → Type 0
-MovesTo old None is_open new = new ≡ old
+MovesTo old None is_open new = Same old new
 MovesTo old (Some move) is_open new = Moves (run_in old) move is_open (run_in new) × Frees old (keys_replaced move.replaced is_open) (chunks_replaced move.replaced is_open) new
 
 abbrev pub RenameFails : KfsState → Result (Option Move) Errno → (ℕ → Bool) → CoreFault → KfsState → Type 0
-RenameFails old judged is_open (No e) new = (judged ≡ Err e) × (new ≡ old)
+RenameFails old judged is_open (No e) new = (judged ≡ Err e) × Same old new
 RenameFails old judged is_open (Device fault) new =
     Stays old new × (GetFault (run_in old) fault (run_in new).machine ⊎ ((move : Move) × (judged ≡ Ok (Some move)) × MoveFault (run_in old) move is_open fault (run_in new).machine))
 

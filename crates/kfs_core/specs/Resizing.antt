@@ -15,7 +15,7 @@ use Rattle.kfs_file.specs.Contents as contents
 use Rattle.kfs_core.specs.declared.fault.CoreFault.{CoreFault}
 use Rattle.kfs_core.specs.declared.fault.CoreFault.TheVariants.{No, Device}
 use Rattle.kfs_core.specs.declared.room.Space.{Space}
-use Rattle.kfs_core.specs.Core.{KfsState, run_in, Stays}
+use Rattle.kfs_core.specs.Core.{KfsState, run_in, Stays, Same}
 use Rattle.kfs_core.specs.Flat.{inode_in}
 use Rattle.kfs_core.specs.Files.{file_at, with_length}
 use Rattle.kfs_core.specs.Room.{space_in, chunks_for}
@@ -64,11 +64,11 @@ Regrows old size length new = new ≡ record old { running = new.running; charge
 
 -- nothing changes where the length stays
 abbrev pub ResizesTo : Bool → KfsState → ℕ → ℕ → ℕ → KfsState → Type 0
-ResizesTo true old node size length new = new ≡ old
+ResizesTo true old node size length new = Same old new
 ResizesTo false old node size length new = Resizes (run_in old) node size length (run_in new) × Regrows old size length new
 
 abbrev pub ResizeFails : KfsState → ℕ → ℕ → CoreFault → KfsState → Type 0
-ResizeFails old node length (No e) new = (resize_in (seen (run_in old)) (space_in old) node length ≡ Err e) × (new ≡ old)
+ResizeFails old node length (No e) new = (resize_in (seen (run_in old)) (space_in old) node length ≡ Err e) × Same old new
 ResizeFails old node length (Device fault) new =
     Stays old new × (
     GetFault (run_in old) fault (run_in new).machine

@@ -10,6 +10,8 @@ use Rattle.kv_device.specs.Calls.{Rises}
 use Rattle.kfs_objects.specs.declared.records.Super.{Super}
 use Rattle.kfs_objects.specs.Keys.{super_key, inode_key}
 use Rattle.kfs_objects.specs.Records.{super_value, inode_value, read_super}
+use Rattle.kfs_damages.specs.Damages.{IsTreeDamage, IsClear}
+use Rattle.kfs_judge.specs.Judging.{heard, room_in}
 use Rattle.kfs_tx.specs.Run.{SameBounds, CausedAlone}
 use Rattle.kfs_core.specs.declared.fault.HostFault.{HostFault}
 use Rattle.kfs_core.specs.declared.fault.HostFault.TheVariants.{Damaged, Cut, Eio, NoMem}
@@ -23,9 +25,9 @@ host_fault Off = Cut
 host_fault Failed = Eio
 host_fault fault = NoMem
 
--- which count rose, by the fault of a mount
+-- the first damage of the objects, which leaves all as it was, or which count rose, by the fault of a mount
 abbrev pub HostCause : Machine → HostFault → Machine → Type 0
-HostCause old (Damaged damage) new = ⊥
+HostCause old (Damaged damage) new = IsTreeDamage (room_in old) (heard old.stable) damage × (new ≡ old)
 HostCause old Cut new = Rises old.cuts new.cuts old.most_cuts × (new.faults ≡ old.faults)
 HostCause old Eio new = Rises old.faults new.faults old.most_faults × (new.cuts ≡ old.cuts)
 HostCause old NoMem new = (new.cuts ≡ old.cuts) × (new.faults ≡ old.faults)
@@ -36,8 +38,9 @@ pub record NotMounted (old : Machine) (fault : HostFault) (new : Machine) : Type
   pub keeps : Keeps old.stable new.stable
   pub bounds : SameBounds old new
 
--- a mount began with the numbers of the super that is stored, removed the nameless nodes, and counted the charge and the chunks
+-- nothing was damaged, and a mount began with the numbers of the super that is stored, removed the nameless nodes, and counted the charge and the chunks
 pub record Started (old : Machine) (new : KfsState) : Type 0 where
+  pub clear : IsClear (room_in old) (heard old.stable)
   pub head : option_and_then read_super (objects.get old.stable super_key) ≡ Some ((run_in new).changes, (run_in new).next)
   pub cleared : Cleared old.stable (run_in new).machine.stable
   pub run : run_in new ≡ begun_over old (run_in new).machine.stable (run_in new).changes (run_in new).next

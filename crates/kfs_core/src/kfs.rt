@@ -2,9 +2,12 @@
 ghost use Rattle.std.specs.Prelude.{◌≡◌, ◌≤◌, ◌<◌, ◌+◌, ◌-◌, ◌^◌, true, All, OnOk, IfOk, IfErr};
 ghost use Rattle.std.specs.FinMap as objects;
 ghost use Rattle.kv_base.specs.Counts.{one_more};
+ghost use Rattle.kv_device.specs.Asked.{asks_cut, asks_fault};
 ghost use Rattle.kv_device.specs.Machine.{none_open, with_most_cuts, with_most_faults};
 ghost use Rattle.kv_device.specs.Calls.{Ages};
 ghost use Rattle.kfs_objects.specs.Keys.{IsNamed};
+ghost use Rattle.kfs_damages.specs.Damages.{IsClear, HasHead};
+ghost use Rattle.kfs_judge.specs.Judging.{heard, room_in};
 ghost use Rattle.kfs_tx.specs.Run.{age_of, Aged, seen, committed};
 ghost use Rattle.kfs_core.specs.Clearing.{Clears, ClearFails, IsFresh, NoOrphans};
 ghost use Rattle.kfs_core.specs.Core.{run_in, Stays};
@@ -22,6 +25,7 @@ use crate::making::add_node;
 use crate::mounting::{host_fault, is_low, stored_super};
 use crate::walking::{found, inode, parent, walk};
 use crate::{CoreFault, HostFault};
+use kfs_judge::{JudgeFault, judge};
 use kfs_objects::{Inode, Super};
 use kfs_path::{Errno, Path};
 use kfs_tx::Running;
@@ -110,8 +114,35 @@ fn start<D: Device>(alloc: Global, device: D, head: Super) -> Result<Kfs<D>, (D,
     }
 }
 
+/// Goes on from objects that were judged.
+fn resume<D: Device>(alloc: Global, device: D) -> Result<Kfs<D>, (D, HostFault)>
+    requires age { D.age device < 2 ^ 63 - 2 ^ 40 }
+    requires up { (D.machine device).up ≡ true }
+    requires idle { (D.machine device).pending ≡ none_open }
+    requires room { (D.machine device).room_keys ≤ 68544 }
+    requires clear { IsClear (room_in (D.machine device)) (heard (D.machine device).stable) }
+    requires head { HasHead (D.machine device).stable }
+    ensures ok { IfOk result (λ kfs. Started (D.machine device) kfs) }
+    ensures err { IfErr result (λ e. NotMounted (D.machine device) e.1 (D.machine e.0)) }
+    ensures age { IfOk result (λ kfs. Ages (D.age device) kfs.running.device_age (2 ^ 38)) }
+    ensures age_left { IfErr result (λ e. Ages (D.age device) (D.age e.0) (2 ^ 38)) }
+{
+    let mut device = device;
+    match stored_super(alloc, &mut device) {
+        Err(fault) => Err((device, host_fault(&fault))),
+        Ok(None) => unreachable!(),
+        Ok(Some(head)) => {
+            if !is_low(&head) {
+                unreachable!()
+            }
+            start(alloc, device, head)
+        }
+    }
+}
+
 impl<D: Device> Kfs<D> {
-    /// Goes on from the tree that the device holds.
+    /// Goes on from the tree that the device holds, where its objects show one that has room, and
+    /// refuses them else with the first damage.
     pub fn mount(alloc: Global, device: D) -> Result<Kfs<D>, (D, HostFault)>
         requires age { D.age device < 2 ^ 63 - 2 ^ 40 }
         requires up { (D.machine device).up ≡ true }
@@ -123,15 +154,10 @@ impl<D: Device> Kfs<D> {
         ensures age_left { IfErr result (λ e. Ages (D.age device) (D.age e.0) (2 ^ 38)) }
     {
         let mut device = device;
-        match stored_super(alloc, &mut device) {
-            Err(fault) => Err((device, host_fault(&fault))),
-            Ok(None) => Err((device, HostFault::NoMem)),
-            Ok(Some(head)) => {
-                if !is_low(&head) {
-                    return Err((device, HostFault::NoMem));
-                }
-                start(alloc, device, head)
-            }
+        match judge(alloc, &mut device) {
+            Err(JudgeFault::Damaged(damage)) => Err((device, HostFault::Damaged(damage))),
+            Err(JudgeFault::Device(fault)) => Err((device, host_fault(&fault))),
+            Ok(()) => resume(alloc, device),
         }
     }
 
@@ -227,6 +253,7 @@ impl<D: PlannedDevice> Kfs<D> {
         ensures planned { run_in self.new ≡ record (run_in self.old) { machine = with_most_cuts (run_in self.old).machine } }
         ensures rest { Stays self.old self.new }
         ensures age { self.new.running.device_age ≡ self.old.running.device_age }
+        ensures asked { self.new.running.asked ≡ asks_cut self.old.running.asked n how }
     {
         self.run.plan_cut(n, how);
     }
@@ -240,6 +267,7 @@ impl<D: PlannedDevice> Kfs<D> {
         ensures most { (run_in self.new).machine.most_faults ≤ one_more (run_in self.old).machine.faults }
         ensures rest { Stays self.old self.new }
         ensures age { self.new.running.device_age ≡ self.old.running.device_age }
+        ensures asked { self.new.running.asked ≡ asks_fault self.old.running.asked kind n }
     {
         self.run.plan_fail(kind, n);
     }

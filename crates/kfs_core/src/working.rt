@@ -16,6 +16,7 @@ impl<D: Device> Kfs<D> {
         ensures err { IfErr result (WorkFails (run_in self.old) (run_in self.new)) }
         ensures rest { Stays self.old self.new }
         ensures age { Aged self.old.running self.new.running (2 ^ 20) }
+        ensures asked { self.new.running.asked.work ≡ operations }
     {
         self.run.work(alloc, operations)?;
         Ok(())

@@ -34,6 +34,7 @@ use Rattle.kfs_core.proofs.Children.{list_same}
 use Rattle.kfs_core.proofs.Small.{commit_small}
 use Rattle.kfs_posix.specs.Book.{Book, limits_of, cause_of}
 use Rattle.kfs_posix.specs.Showing.{ShowsLive, IsSaved, GoesOn}
+use Rattle.kfs_posix.proofs.Rooms.{named_fits}
 use Rattle.kfs_posix.proofs.Going.{spare, spare_free, as_before, as_synced, idle_goes, fall_goes, up_goes, answered}
 
 pub stands_of : (b : Book) (live : Live) → ShowsLive b live → Stands (seen b.run) live.world.tree
@@ -76,7 +77,7 @@ read_falls old new call fault eio nomem up down same h = fall_goes old new call 
 
 -- what the transaction sees may be saved
 pub live_saved : (b : Book) (live : Live) → ShowsLive b live → IsSaved (limits_of b) (seen b.run) live.world.tree live.past.count
-live_saved b live sh = record { tree = sh.tree; kept = live.world.tree; is_kept = kept_all live.world.tree sh.tree; kept_tree = sh.tree; shows = sh.sees; next = sh.low; count = sh.few_changes; room = sh.room }
+live_saved b live sh = record { tree = sh.tree; kept = live.world.tree; is_kept = kept_all live.world.tree sh.tree; kept_tree = sh.tree; shows = sh.sees; next = sh.low; count = sh.few_changes; room = named_fits (limits_of b) live.world.tree sh.room }
 
 -- ---- sync
 

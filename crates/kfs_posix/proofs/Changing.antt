@@ -16,6 +16,7 @@ use Rattle.kfs_posix.specs.Book.{Book, limits_of}
 use Rattle.kfs_posix.specs.Opens.{Opens, desk_of}
 use Rattle.kfs_posix.specs.Holding.{Holds}
 use Rattle.kfs_posix.specs.Showing.{ShowsLive, IsSaved}
+use Rattle.kfs_posix.proofs.Rooms.{named_fits}
 use Rattle.kfs_posix.proofs.Past.{older, newest}
 
 -- the objects of the change are put, and all else of the session is as before
@@ -56,7 +57,7 @@ module _ (b : Book) (live : Live) (sh : ShowsLive b live) (r : Run) (t : Tree) (
       (with_super (seen r) t (live.past.count + 1) put.shows)
 
   pub to_save : IsSaved (limits_of b) (seen done) t (live.past.count + 1)
-  to_save = record { tree = put.tree; kept = t; is_kept = kept_all t put.tree; kept_tree = put.tree; shows = sees; next = put.low; count = (let e = count_is in let h = put.few_changes in omega arith); room = put.room }
+  to_save = record { tree = put.tree; kept = t; is_kept = kept_all t put.tree; kept_tree = put.tree; shows = sees; next = put.low; count = (let e = count_is in let h = put.few_changes in omega arith); room = named_fits (limits_of b) t put.room }
 
   few_keys : changed_keys done ≤ changed_keys r + 1
   few_keys = keys_put r super_key (super_value (r.changes + 1) next) put.ready

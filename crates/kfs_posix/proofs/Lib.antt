@@ -1,3 +1,4 @@
+pub mod Rooms
 pub mod Slots
 pub mod Maps
 pub mod Held
@@ -24,6 +25,7 @@ pub mod Mounting
 pub mod Looking
 pub mod Fault
 pub mod Answered
+pub mod Asking
 pub mod Planning
 pub mod Planned
 pub mod Unnaming
@@ -40,3 +42,4 @@ pub mod ResizeJudges
 pub mod ResizeGoes
 pub mod ResizeEvents
 pub mod ResizeAnswers
+pub mod Unstruck

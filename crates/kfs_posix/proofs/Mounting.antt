@@ -34,42 +34,10 @@ use Rattle.kfs_posix.specs.Book.{book_of}
 use Rattle.kfs_posix.specs.Showing.{ShowsLive, IsSaved}
 use Rattle.kfs_posix.specs.Mounting.{limits_in, IsStored, Mounts}
 use Rattle.kfs_posix.proofs.Held.{nothing_holds}
-
-both_true : (a b : Bool) → (a && b) ≡ true → (a ≡ true) × (b ≡ true)
-both_true true b e = (refl, e)
-both_true false b e = absurd (cc)
+use Rattle.kfs_posix.proofs.Rooms.{both_true, named_fits}
 
 there : (past : Past) (k : ℕ) → tree_at (ended_at past k) k ≡ named (tree_at past k)
 there past k = let zero' : k - k ≡ 0 = omega arith in ap (λ i. unwrap_or (slice_get (ended_at past k).trees i) root_alone) zero'
-
-module _ (p : ℕ × Node → Bool) where
-  fewer : (es : List (ℕ × Node)) → length (filter p es) ≤ length es
-  fewer [] = omega arith
-  fewer (e ∷ es) = by (p e) (fewer es)
-    where
-      by : (b : Bool) → length (filter p es) ≤ length es → length (cond b (e ∷ filter p es) (filter p es)) ≤ length (e ∷ es)
-      by true h = omega arith
-      by false h = omega arith
-
-  smaller : (es : List (ℕ × Node)) → sum_by (λ e. chunks_of e.1) (filter p es) ≤ sum_by (λ e. chunks_of e.1) es
-  smaller [] = omega arith
-  smaller (e ∷ es) = by (p e) (smaller es)
-    where
-      by : (b : Bool) → sum_by (λ e. chunks_of e.1) (filter p es) ≤ sum_by (λ e. chunks_of e.1) es → sum_by (λ e. chunks_of e.1) (cond b (e ∷ filter p es) (filter p es)) ≤ sum_by (λ e. chunks_of e.1) (e ∷ es)
-      by true h = let a = sum_by-cons (λ (e : ℕ × Node). chunks_of e.1) e (filter p es) in let b = sum_by-cons (λ (e : ℕ × Node). chunks_of e.1) e es in omega arith
-      by false h = let b = sum_by-cons (λ (e : ℕ × Node). chunks_of e.1) e es in omega arith
-
--- with fewer nodes a tree takes no more room
-named_fits : (k : Limits) (t : Tree) → has_room k t ≡ true → has_room k (named t) ≡ true
-named_fits k t room =
-    let h = both_true (nat_le (charge t) k.keys) (nat_le (chunks t) k.pages) room in
-    let a = fewer (λ e. is_named t e.0) t.nodes in
-    let b = smaller (λ e. is_named t e.0) t.nodes in
-    let c : charge t ≤ k.keys = grind (arith, nat_tests, h.0) in
-    let d : chunks t ≤ k.pages = grind (arith, nat_tests, h.1) in
-    let e : nat_le (charge (named t)) k.keys ≡ true = grind (arith, nat_tests) in
-    let f : nat_le (chunks (named t)) k.pages ≡ true = grind (arith, nat_tests) in
-    λ i. (e i && f i)
 
 -- a tree without some of its nameless nodes loses the same nodes
 named_kept_same : (t kept : Tree) → IsTree t → IsKept t kept → named kept ≡ named t
@@ -126,13 +94,13 @@ module _ (old : Machine) (up : old.up ≡ true) (idle : old.pending ≡ none_ope
       let changes_is : changes ≡ k = ap (λ (p : ℕ × ℕ). p.0) both in
       let next_is : next ≡ t.next = ap (λ (p : ℕ × ℕ). p.1) both in
       let few = few_objects now u shown.0 shown.1.tree low in
-      let room = named_fits (limits_in old) t before.room in
+      let room = before.room in
       let h = both_true (nat_le (charge u) old.room_keys) (nat_le (chunks u) old.room_pages) room in
       let le : charge u ≤ old.room_keys = grind (arith, nat_tests, h.0) in
       let held : objects.len now < 2 ^ 32 = omega arith in
       let over : Machine = record old { stable = now } in
       let stands : Stands now u = record { tree = shown.0; shows = shown.1.tree; low = low } in
-      let stored : IsSaved (limits_in old) now u k = record { tree = shown.0; kept = u; is_kept = kept_all u shown.0; kept_tree = shown.0; shows = shown.1; next = before.next; count = before.count; room = room } in (
+      let stored : IsSaved (limits_in old) now u k = record { tree = shown.0; kept = u; is_kept = kept_all u shown.0; kept_tree = shown.0; shows = shown.1; next = before.next; count = before.count; room = named_fits (limits_in old) u room } in (
         changes_is,
         record {
           up = refl;

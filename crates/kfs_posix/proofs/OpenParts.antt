@@ -1,5 +1,5 @@
 -- What opening did, by what its parts did.
-use Rattle.std.proofs.Common.{◌≡◌, ℕ, ◌==◌, inl, inr, true, false, not, Bool, refl, sym, ◌∙◌, ap, subst, Option, None, Result, Ok}
+use Rattle.std.proofs.Common.{◌≡◌, ℕ, ◌==◌, inl, inr, true, false, not, Bool, refl, sym, ◌∙◌, ap, subst, Option, None, Result, Ok, Err}
 use Rattle.std.specs.Ordering.{nat_cmp}
 use Rattle.std.specs.FinMap.{find}
 use Rattle.kv_device.specs.Objects.{Objects}
@@ -10,13 +10,14 @@ use Rattle.kfs_model.specs.Step.{Route}
 use Rattle.kfs_tx.specs.Run.{seen}
 use Rattle.kfs_core.specs.declared.fault.CoreFault.{CoreFault}
 use Rattle.kfs_core.specs.declared.fault.CoreFault.TheVariants.{No, Device}
-use Rattle.kfs_core.specs.Core.{KfsState, run_in}
+use Rattle.kfs_core.specs.Core.{KfsState, run_in, Same}
 use Rattle.kfs_core.specs.Flat.{reach_in}
 use Rattle.kfs_core.specs.Resizing.{resize_in, ResizesTo, ResizeFails}
 use Rattle.kfs_core.specs.Room.{space_in}
 use Rattle.kfs_posix.specs.declared.open_files.OpenFile.{OpenFile}
 use Rattle.kfs_posix.specs.Opens.{Opens, opened_as, relengthed}
-use Rattle.kfs_posix.specs.Opening.{Opening, There, Cut, opened_file, free_for_in, there_in, open_there_in, open_found, open_at_in, IsOpened, OpenFails, OpenDoes}
+use Rattle.kfs_posix.specs.Opening.{Opening, New, There, Cut, opened_file, free_for_in, there_in, open_there_in, open_found, open_at_in, IsOpened, OpenFails, OpenDoes}
+use Rattle.kfs_posix.proofs.ResizeJudges.{same_as, resizes_same}
 
 when_not : (b : Bool) → not b ≡ true → b ≡ false
 when_not true e = absurd (cc)
@@ -65,9 +66,20 @@ module _ (k : KfsState) (o mid : Opens) (n kind size : ℕ) (trailing : Bool) (f
     same,
   )
 
--- what was opened by what a walk found, after a look-up that left all as it was
-pub opened_by : (k mid new : KfsState) (o files : Opens) (flags : Flags) (route : Route) (found : Option (ℕ × ℕ × ℕ)) (result : Result ℕ CoreFault) → mid ≡ k → reach_in (seen (run_in k)) route ≡ Ok found
+opened_same : (k mid new : KfsState) (o files : Opens) (flags : Flags) (x : Opening) (fd : ℕ) → IsOpened (same_as k mid) o flags x fd new files → IsOpened k o flags x fd new files
+opened_same k mid new o files flags (New w n) fd h = h
+opened_same k mid new o files flags (There n found) fd h = h
+opened_same k mid new o files flags (Cut n found was) fd h = (h.0, resizes_same k mid new found.it.node was 0 (was == 0) h.1, h.2)
+
+open_same : (k mid new : KfsState) (o files : Opens) (flags : Flags) (judged : Result Opening Errno) (result : Result ℕ CoreFault) → OpenDoes (same_as k mid) o flags judged result new files → OpenDoes k o flags judged result new files
+open_same k mid new o files flags judged (Ok fd) h = (h.0, h.1, opened_same k mid new o files flags h.0 fd h.2)
+open_same k mid new o files flags judged (Err (No e)) h = h
+open_same k mid new o files flags judged (Err (Device f)) h = h
+
+-- what was opened by what a walk found, after a look-up that changed nothing
+pub opened_by : (k mid new : KfsState) (o files : Opens) (flags : Flags) (route : Route) (found : Option (ℕ × ℕ × ℕ)) (result : Result ℕ CoreFault) → Same k mid → reach_in (seen (run_in k)) route ≡ Ok found
     → OpenDoes mid o flags (open_found (seen (run_in mid)) (space_in mid) o route flags found) result new files → OpenDoes k o flags (open_at_in (seen (run_in k)) (space_in k) o route flags) result new files
 opened_by k mid new o files flags route found result same reach does =
     subst (λ j. OpenDoes k o flags j result new files) (sym (ap (λ r. r >>= λ found. open_found (seen (run_in k)) (space_in k) o route flags found) reach))
-    (subst (λ (x : KfsState). OpenDoes x o flags (open_found (seen (run_in x)) (space_in x) o route flags found) result new files) same does)
+    (open_same k mid new o files flags (open_found (seen (run_in k)) (space_in k) o route flags found) result
+    (subst (λ (x : KfsState). OpenDoes x o flags (open_found (seen (run_in x)) (space_in x) o route flags found) result new files) same does))

@@ -1,5 +1,5 @@
 -- The judge of a file's new length, by its parts.
-use Rattle.std.proofs.Common.{◌≡◌, ℕ, false, refl, sym, ◌∙◌, ap, subst, arith, List, Result, Ok, ℤ}
+use Rattle.std.proofs.Common.{◌≡◌, ℕ, ◌==◌, Bool, true, false, refl, sym, ◌∙◌, ap, subst, List, Result, Ok, Err, ℤ}
 use lib.Signed.{lt_z}
 use Rattle.std.specs.Prelude.{pos, negsuc}
 use Rattle.kv_device.specs.Objects.{Objects}
@@ -7,19 +7,39 @@ use Rattle.kfs_path.specs.declared.call.Errno.{Errno}
 use Rattle.kfs_path.specs.declared.call.Errno.TheVariants.{EINVAL}
 use Rattle.kfs_model.specs.Ladder.{◌>>=◌, ◌>>◌, ◌when◌}
 use Rattle.kfs_model.specs.Step.{Route, syntax, is_negative, natural}
-use Rattle.kfs_tx.specs.Run.{Aged, seen}
+use Rattle.kfs_tx.specs.Run.{seen}
 use Rattle.kfs_core.specs.declared.fault.CoreFault.{CoreFault}
 use Rattle.kfs_core.specs.declared.room.Space.{Space}
-use Rattle.kfs_core.specs.Core.{KfsState, run_in, Stays}
+use Rattle.kfs_core.specs.declared.fault.CoreFault.TheVariants.{No, Device}
+use Rattle.kfs_core.specs.Core.{KfsState, run_in, Stays, Same}
+use Rattle.kfs_core.specs.Resizing.{ResizesTo}
 use Rattle.kfs_core.specs.Room.{space_in}
 use Rattle.kfs_posix.specs.Opens.{Opens}
 use Rattle.kfs_posix.specs.Resizing.{resize_node, named_file_in, truncate_by, LengthDoes}
 
--- a call that only read left all as it was
-pub still : (old mid : KfsState) → Stays old mid → run_in mid ≡ run_in old → Aged old.running mid.running 0 → mid ≡ old
-still old mid rest same aged =
-    let age : mid.running.device_age ≡ old.running.device_age = let h = aged.device in omega arith in
-    rest ∙ (λ i. record old { running = record { run = same i; device_age = age i } })
+-- a call that only read changed nothing
+pub still : (old mid : KfsState) → Stays old mid → run_in mid ≡ run_in old → Same old mid
+still old mid rest same = rest ∙ (λ i. record old { running = record mid.running { run = same i } })
+
+-- the state before, where the device has written and planned what it has now
+abbrev pub same_as : KfsState → KfsState → KfsState
+same_as old mid = record old { running = record mid.running { run = run_in old } }
+
+-- what is said of that is said of the state before
+pub resizes_same : (old mid new : KfsState) (node was size : ℕ) (b : Bool) → ResizesTo b (same_as old mid) node was size new → ResizesTo b old node was size new
+resizes_same old mid new node was size true h = h
+resizes_same old mid new node was size false h = h
+
+length_same : {X : Type 0} (old mid new : KfsState) (o files : Opens) (judged : Result (ℕ × ℕ) Errno) (size : ℕ) (result : Result X CoreFault) → LengthDoes (same_as old mid) o judged size result new files → LengthDoes old o judged size result new files
+length_same old mid new o files judged size (Ok x) h = record {
+  node = h.node;
+  was = h.was;
+  judge = h.judge;
+  effect = resizes_same old mid new h.node h.was size (h.was == size) h.effect;
+  files_are = h.files_are;
+}
+length_same old mid new o files judged size (Err (No e)) h = h
+length_same old mid new o files judged size (Err (Device f)) h = h
 
 pub truncate_judged : (m : Objects) (space : Space) (path : List ℕ) (route : Route) (size : ℤ) (n : ℕ) → is_negative size ≡ false → syntax path ≡ Ok route → named_file_in m route ≡ Ok n → truncate_by m space path size ≡ resize_node m space n (natural size)
 truncate_judged m space path route size n plain read named =
@@ -27,12 +47,12 @@ truncate_judged m space path route size n plain read named =
     ∙ ap (λ r. r >>= λ n. resize_node m space n (natural size)) named
 
 -- what was done of a node is what was done of the path that names it
-pub length_moved : {X : Type 0} (old mid new : KfsState) (o files : Opens) (n l size : ℕ) (result : Result X CoreFault) → mid ≡ old → l ≡ size → LengthDoes mid o (resize_node (seen (run_in mid)) (space_in mid) n l) l result new files
+pub length_moved : {X : Type 0} (old mid new : KfsState) (o files : Opens) (n l size : ℕ) (result : Result X CoreFault) → Same old mid → l ≡ size → LengthDoes mid o (resize_node (seen (run_in mid)) (space_in mid) n l) l result new files
     → {judge : Result (ℕ × ℕ) Errno} → judge ≡ resize_node (seen (run_in old)) (space_in old) n size → LengthDoes old o judge size result new files
 length_moved old mid new o files n l size result same is does judged =
     subst (λ j. LengthDoes old o j size result new files) (sym judged)
     (subst (λ s. LengthDoes old o (resize_node (seen (run_in old)) (space_in old) n s) s result new files) is
-    (subst (λ (k : KfsState). LengthDoes k o (resize_node (seen (run_in k)) (space_in k) n l) l result new files) same does))
+    (length_same old mid new o files (resize_node (seen (run_in old)) (space_in old) n l) l result (subst (λ (k : KfsState). LengthDoes k o (resize_node (seen (run_in k)) (space_in k) n l) l result new files) same does)))
 
 -- a length that is tested to be no less than zero
 pub not_negative : (size : ℤ) → lt_z size (pos 0) ≡ false → is_negative size ≡ false

@@ -17,7 +17,7 @@ use Rattle.kfs_model.specs.Life.{Live, can_fail}
 use Rattle.kfs_tx.specs.Run.{age_of, one_change, GetFault}
 use Rattle.kfs_core.specs.declared.fault.CoreFault.{CoreFault}
 use Rattle.kfs_core.specs.declared.fault.CoreFault.TheVariants.{No, Device}
-use Rattle.kfs_core.specs.Core.{KfsState, run_in, Stays, Takes}
+use Rattle.kfs_core.specs.Core.{KfsState, run_in, Same, Stays, Takes}
 use Rattle.kfs_core.specs.Files.{Wrote, WriteFault, with_length}
 use Rattle.kfs_core.specs.Room.{grown, chunks_for, fits_in, space_in}
 use Rattle.kfs_core.proofs.FileFaults.{write_caused}
@@ -38,11 +38,11 @@ module _ (old : SessionState) (k0 k1 : KfsState) (o o1 : Opens) (d : Option Caus
   b = book_of k0 o d
 
   -- all as it was
-  unchanged : (call : Call) (n : ℕ) → k1 ≡ k0 → o1 ≡ o → GoesOn b (lines.Call call) (answers.Reply (replies.Number n)) b → Happens old call (replies.Number n) k1 o1 d
+  unchanged : (call : Call) (n : ℕ) → Same k0 k1 → o1 ≡ o → GoesOn b (lines.Call call) (answers.Reply (replies.Number n)) b → Happens old call (replies.Number n) k1 o1 d
   unchanged call n same files goes =
       answered old k0 k1 o o1 d is up awake call (replies.Number n) (number_plain n) (run_in k0) k0.charge k0.chunks o (same_machine (run_in k0)) (ap run_in same) (ap (λ (k : KfsState). k.charge) same) (ap (λ (k : KfsState). k.chunks) same) (ap (λ (k : KfsState). k.keys) same) (ap (λ (k : KfsState). k.pages) same) files goes
 
-  refused : (call : Call) (e : Errno) (reply : Reply) (d1 : Option Cause) → reply ≡ refusal (No e) → d1 ≡ down_after d (No e) → k1 ≡ k0 → o1 ≡ o → GoesOn b (lines.Call call) (answers.Reply (replies.Err e)) b → Happens old call reply k1 o1 d1
+  refused : (call : Call) (e : Errno) (reply : Reply) (d1 : Option Cause) → reply ≡ refusal (No e) → d1 ≡ down_after d (No e) → Same k0 k1 → o1 ≡ o → GoesOn b (lines.Call call) (answers.Reply (replies.Err e)) b → Happens old call reply k1 o1 d1
   refused call e reply d1 reply_is down same files goes =
       failed old k0 k1 o o1 d is up awake call (No e) reply d1 reply_is down (ap (λ (k : KfsState). k.charge) same) (ap (λ (k : KfsState). k.chunks) same) (ap (λ (k : KfsState). k.keys) same) (ap (λ (k : KfsState). k.pages) same) files
       (ap (λ (k : KfsState). (run_in k).machine.cuts) same, ap (λ (k : KfsState). (run_in k).machine.faults) same) (λ none. ap (λ (k : KfsState). (run_in k).machine.up) same ∙ awake)

@@ -1,7 +1,10 @@
 -- Which counts rose in a call, and what the session keeps of it, by the reply.
-use Rattle.std.specs.Prelude.{◌≡◌, Option, Some, None, IsSome}
+use Rattle.std.specs.Prelude.{ℕ, ◌≡◌, Option, Some, None, IsSome}
+use Rattle.kv_device.specs.Asked.{Asked}
 use Rattle.kv_device.specs.Machine.{Machine}
 use Rattle.kv_device.specs.Calls.{Rises}
+use Rattle.kfs_path.specs.declared.call.Call.{Call}
+use Rattle.kfs_path.specs.declared.call.Call.TheVariants.{Work}
 use Rattle.kfs_path.specs.declared.call.Cause.{Cause}
 use Rattle.kfs_path.specs.declared.call.Cause.TheVariants.{Cut, Eio}
 use Rattle.kfs_path.specs.declared.call.Reply.{Reply}
@@ -15,6 +18,16 @@ abbrev pub Counts : Machine → Reply → Machine → Type 0
 Counts old (Down Cut) new = Rises old.cuts new.cuts old.most_cuts × (new.faults ≡ old.faults)
 Counts old (Down Eio) new = Rises old.faults new.faults old.most_faults × (new.cuts ≡ old.cuts)
 Counts old reply new = (new.cuts ≡ old.cuts) × (new.faults ≡ old.faults)
+
+-- a session that is up asks its device for as many operations as it is asked for; `off` is the answer of one that is down
+abbrev pub AsksWork : ℕ → Reply → Asked → Type 0
+AsksWork operations Off asked = Unit {0}
+AsksWork operations reply asked = asked.work ≡ operations
+
+-- so of the call of work; other calls ask for none
+abbrev pub Asks : Call → Reply → Asked → Type 0
+Asks (Work operations) reply asked = AsksWork operations reply asked
+Asks call reply asked = Unit {0}
 
 -- it goes down exactly at an answer that says so, answers so while it is down, and keeps the cause
 abbrev pub KeepsCause : Book → Reply → Book → Type 0

@@ -1,13 +1,14 @@
 -- What a session keeps.
 use Rattle.std.specs.Prelude.{ℕ, zero, suc, ◌≡◌, Option, refl}
 use Rattle.std.specs.Coded.{Coded, code_by, coded×, coded_ℕ, coded_option}
+use Rattle.kv_device.specs.Asked.{Asked}
 use Rattle.kv_device.specs.declared.fault.DeviceFault.{DeviceFault}
 use Rattle.kv_device.specs.declared.fault.DeviceFault.TheVariants.{Off, Failed}
 use Rattle.kfs_path.specs.declared.call.Cause.{Cause}
 use Rattle.kfs_path.specs.declared.call.Cause.TheVariants.{Cut, Eio, NoMem}
 use Rattle.kfs_model.specs.Tree.{Limits}
 use Rattle.kfs_tx.specs.Run.{Run, RunState}
-use Rattle.kfs_tx.specs.Codes.{run_code}
+use Rattle.kfs_tx.specs.Codes.{run_code, asked_code}
 use Rattle.kfs_core.specs.Core.{KfsState}
 use Rattle.kfs_posix.specs.Opens.{Opens, opens_code}
 
@@ -24,16 +25,17 @@ pub record Book : Type 0 where
 pub record SessionState : Type 0 where
   pub book : Book
   pub device_age : ℕ
+  pub asked : Asked
 
 abbrev pub book_of : KfsState → Opens → Option Cause → Book
 book_of kfs files down = record { run = kfs.running.run; keys = kfs.keys; pages = kfs.pages; charge = kfs.charge; chunks = kfs.chunks; files = files; down = down }
 
 abbrev pub state_of : KfsState → Opens → Option Cause → SessionState
-state_of kfs files down = record { book = book_of kfs files down; device_age = kfs.running.device_age }
+state_of kfs files down = record { book = book_of kfs files down; device_age = kfs.running.device_age; asked = kfs.running.asked }
 
 -- its running transaction
 abbrev pub running_in : SessionState → RunState
-running_in s = record { run = s.book.run; device_age = s.device_age }
+running_in s = record { run = s.book.run; device_age = s.device_age; asked = s.asked }
 
 abbrev pub limits_of : Book → Limits
 limits_of b = record { keys = b.keys; pages = b.pages }
@@ -68,4 +70,8 @@ book_code =
     (λ _. refl)
 
 abbrev pub session_code : Coded SessionState
-session_code = code_by (Book × ℕ) (coded× book_code coded_ℕ) (λ s. (s.book, s.device_age)) (λ p. record { book = p.0; device_age = p.1 }) (λ _. refl)
+session_code =
+    code_by (Book × (ℕ × Asked)) (coded× book_code (coded× coded_ℕ asked_code))
+    (λ s. (s.book, (s.device_age, s.asked)))
+    (λ p. record { book = p.0; device_age = p.1.0; asked = p.1.1 })
+    (λ _. refl)

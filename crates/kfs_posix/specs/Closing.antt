@@ -5,7 +5,7 @@ use Rattle.kfs_model.specs.Desk.{is_open}
 use Rattle.kfs_tx.specs.Run.{seen}
 use Rattle.kfs_core.specs.declared.fault.CoreFault.{CoreFault}
 use Rattle.kfs_core.specs.declared.fault.CoreFault.TheVariants.{No}
-use Rattle.kfs_core.specs.Core.{KfsState, run_in}
+use Rattle.kfs_core.specs.Core.{KfsState, run_in, Same}
 use Rattle.kfs_core.specs.Flat.{inode_in}
 use Rattle.kfs_core.specs.Removing.{release_at, Released, ReleaseFails}
 use Rattle.kfs_posix.specs.declared.open_files.OpenFile.{OpenFile}
@@ -17,7 +17,7 @@ remains o file = file.named || is_open (desk_of o) file.it.node
 
 -- a node that stays leaves all as it was, another is released
 abbrev pub Closes : KfsState → OpenFile → Bool → KfsState → Type 0
-Closes old file true new = new ≡ old
+Closes old file true new = Same old new
 Closes old file false new = Released old file.it.node (release_at (inode_in (seen (run_in old)) file.it.node)) new
 
 -- a descriptor was closed
@@ -39,7 +39,7 @@ pub record NotReleased (old : KfsState) (o : Opens) (fd : ℕ) (fault : CoreFaul
 pub record NotOpen (old : KfsState) (o : Opens) (fd : ℕ) (fault : CoreFault) (new : KfsState) (files : Opens) : Type 0 where
   pub at : open_at o fd ≡ None
   pub errno : fault ≡ No EBADF
-  pub same : new ≡ old
+  pub same : Same old new
   pub files_are : files ≡ o
 
 -- what closing did

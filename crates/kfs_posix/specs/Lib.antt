@@ -14,3 +14,4 @@ pub mod Reading
 pub mod Writing
 pub mod Resizing
 pub mod Bounds
+pub mod Unplanned

@@ -7,7 +7,7 @@ use Rattle.kfs_model.specs.Step.{syntax}
 use Rattle.kfs_tx.specs.Run.{GetFault}
 use Rattle.kfs_core.specs.declared.fault.CoreFault.{CoreFault}
 use Rattle.kfs_core.specs.declared.fault.CoreFault.TheVariants.{No, Device}
-use Rattle.kfs_core.specs.Core.{KfsState, run_in, Stays}
+use Rattle.kfs_core.specs.Core.{KfsState, run_in, Stays, Same}
 use Rattle.kfs_core.specs.declared.removing.Leaf.{Leaf}
 use Rattle.kfs_core.specs.Removing.{is_open_in, unlink_in, rmdir_in, Unlinks, UnlinkFault, Frees, keys_gone, chunks_gone}
 use Rattle.kfs_posix.specs.Opens.{Opens, nodes_of, without_name}
@@ -32,7 +32,7 @@ pub record Unnamed (old : KfsState) (o : Opens) (judged : Result Leaf Errno) (ne
   pub files_are : files ≡ without_name o leaf.node
 
 abbrev pub UnnameFails : KfsState → Opens → Result Leaf Errno → CoreFault → KfsState → Opens → Type 0
-UnnameFails old o judged (No e) new files = (judged ≡ Err e) × (new ≡ old) × (files ≡ o)
+UnnameFails old o judged (No e) new files = (judged ≡ Err e) × Same old new × (files ≡ o)
 UnnameFails old o judged (Device fault) new files =
     Stays old new × (files ≡ o)
     × (GetFault (run_in old) fault (run_in new).machine ⊎ ((leaf : Leaf) × (judged ≡ Ok leaf) × UnlinkFault (run_in old) leaf (open_now o leaf.node) fault (run_in new).machine))

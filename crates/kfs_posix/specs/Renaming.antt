@@ -9,7 +9,7 @@ use Rattle.kfs_tx.specs.Run.{GetFault}
 use Rattle.kfs_core.specs.declared.fault.CoreFault.{CoreFault}
 use Rattle.kfs_core.specs.declared.fault.CoreFault.TheVariants.{No, Device}
 use Rattle.kfs_core.specs.declared.renaming.Move.{Move}
-use Rattle.kfs_core.specs.Core.{KfsState, run_in, Stays}
+use Rattle.kfs_core.specs.Core.{KfsState, run_in, Stays, Same}
 use Rattle.kfs_core.specs.Renaming.{rename_in, replaced_node, MovesTo, MoveFault}
 use Rattle.kfs_posix.specs.Opens.{Opens, without_name}
 use Rattle.kfs_posix.specs.Removing.{open_now}
@@ -31,7 +31,7 @@ pub record Renamed (old : KfsState) (o : Opens) (judged : Result (Option Move) E
   pub files_are : files ≡ without_replaced o (option_and_then replaced_node move)
 
 abbrev pub NotRenamed : KfsState → Opens → Result (Option Move) Errno → CoreFault → KfsState → Opens → Type 0
-NotRenamed old o judged (No e) new files = (judged ≡ Err e) × (new ≡ old) × (files ≡ o)
+NotRenamed old o judged (No e) new files = (judged ≡ Err e) × Same old new × (files ≡ o)
 NotRenamed old o judged (Device fault) new files =
     Stays old new × (files ≡ o)
     × (GetFault (run_in old) fault (run_in new).machine ⊎ ((move : Move) × (judged ≡ Ok (Some move)) × MoveFault (run_in old) move (open_now o) fault (run_in new).machine))

@@ -9,7 +9,7 @@ use Rattle.kfs_tx.specs.Run.{GetFault}
 use Rattle.kfs_core.specs.declared.fault.CoreFault.{CoreFault}
 use Rattle.kfs_core.specs.declared.fault.CoreFault.TheVariants.{No, Device}
 use Rattle.kfs_core.specs.declared.room.Space.{Space}
-use Rattle.kfs_core.specs.Core.{KfsState, run_in, Stays}
+use Rattle.kfs_core.specs.Core.{KfsState, run_in, Stays, Same}
 use Rattle.kfs_core.specs.Flat.{reach_in}
 use Rattle.kfs_core.specs.Resizing.{resize_in, ResizesTo, ResizeFault}
 use Rattle.kfs_posix.specs.Opens.{Opens, relengthed}
@@ -57,7 +57,7 @@ pub record Resized (k : KfsState) (o : Opens) (judged : Result (ℕ × ℕ) Errn
   pub files_are : files ≡ relengthed o node size
 
 abbrev pub NotResized : KfsState → Opens → Result (ℕ × ℕ) Errno → ℕ → CoreFault → KfsState → Opens → Type 0
-NotResized k o judged size (No e) new files = (judged ≡ Err e) × (new ≡ k) × (files ≡ o)
+NotResized k o judged size (No e) new files = (judged ≡ Err e) × Same k new × (files ≡ o)
 NotResized k o judged size (Device fault) new files =
     Stays k new × (files ≡ o)
     × (GetFault (run_in k) fault (run_in new).machine ⊎ ((it : ℕ × ℕ) × (judged ≡ Ok it) × ((it.1 == size) ≡ false) × ResizeFault (run_in k) it.0 it.1 size fault (run_in new).machine))

@@ -4,7 +4,7 @@ use Rattle.kfs_path.specs.declared.call.Cause.{Cause}
 use Rattle.kfs_model.specs.declared.Answer.{Answer}
 use Rattle.kfs_model.specs.declared.Line.{Line}
 use Rattle.kv_device.specs.Objects.{Objects}
-use Rattle.kfs_model.specs.Tree.{Tree, Limits, charge, chunks, has_room, IsTree, IsKept}
+use Rattle.kfs_model.specs.Tree.{Tree, Limits, charge, chunks, has_room, named, IsTree, IsKept}
 use Rattle.kfs_model.specs.Life.{State, Live, Now, Up, Down, Past, tree_at, Event, AnyOf}
 use Rattle.kfs_shows.specs.Shows.{Shows}
 use Rattle.kfs_tx.specs.Run.{seen}
@@ -13,8 +13,8 @@ use Rattle.kfs_posix.specs.Book.{Book, limits_of}
 use Rattle.kfs_posix.specs.Opens.{desk_of}
 use Rattle.kfs_posix.specs.Holding.{Holds}
 
--- the objects stand for the tree after n changes, which has room: they show it, or that without some of
--- its nameless nodes
+-- the objects stand for the tree after n changes, which has room once its nameless nodes are gone: they
+-- show it, or that without some of its nameless nodes
 pub record IsSaved (k : Limits) (m : Objects) (t : Tree) (n : ℕ) : Type 0 where
   pub tree : IsTree t
   pub kept : Tree
@@ -23,7 +23,7 @@ pub record IsSaved (k : Limits) (m : Objects) (t : Tree) (n : ℕ) : Type 0 wher
   pub shows : Shows m kept n
   pub next : t.next < 2 ^ 63
   pub count : n < 2 ^ 63
-  pub room : has_room k t ≡ true
+  pub room : has_room k (named t) ≡ true
 
 -- an up session: the transaction's view shows the live tree, and `stable` the tree at mark
 pub record ShowsLive (b : Book) (live : Live) : Type 0 where

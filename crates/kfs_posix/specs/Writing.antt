@@ -7,7 +7,7 @@ use Rattle.kfs_model.specs.Ladder.{◌>>=◌, ◌>>◌, ◌when◌}
 use Rattle.kfs_model.specs.Step.{or_else, greatest_count, is_negative}
 use Rattle.kfs_core.specs.declared.fault.CoreFault.{CoreFault}
 use Rattle.kfs_core.specs.declared.fault.CoreFault.TheVariants.{No, Device}
-use Rattle.kfs_core.specs.Core.{KfsState}
+use Rattle.kfs_core.specs.Core.{KfsState, Same}
 use Rattle.kfs_core.specs.Files.{WriteDoes, WriteFails}
 use Rattle.kfs_posix.specs.declared.open_files.OpenFile.{OpenFile}
 use Rattle.kfs_posix.specs.Opens.{Opens, open_at, relengthed, moved_to}
@@ -37,19 +37,19 @@ behind place n = min (place + n) (2 ^ 64 - 1)
 -- what putting bytes into an open file did
 abbrev pub PutFails : KfsState → Opens → OpenFile → ℕ → List ℕ → CoreFault → KfsState → Opens → Type 0
 PutFails k o file place bytes (No e) new files =
-    (files ≡ o) × (((nat_lt greatest_count (length bytes) ≡ true) × (e ≡ EINVAL) × (new ≡ k)) ⊎ ((nat_lt greatest_count (length bytes) ≡ false) × (is_empty bytes ≡ false) × WriteFails k file.it.node place bytes (No e) new))
+    (files ≡ o) × (((nat_lt greatest_count (length bytes) ≡ true) × (e ≡ EINVAL) × Same k new) ⊎ ((nat_lt greatest_count (length bytes) ≡ false) × (is_empty bytes ≡ false) × WriteFails k file.it.node place bytes (No e) new))
 PutFails k o file place bytes (Device fault) new files =
     (files ≡ o) × (nat_lt greatest_count (length bytes) ≡ false) × (is_empty bytes ≡ false) × WriteFails k file.it.node place bytes (Device fault) new
 
 abbrev pub PutDoes : KfsState → Opens → OpenFile → ℕ → List ℕ → Result ℕ CoreFault → KfsState → Opens → Type 0
 PutDoes k o file place bytes (Ok n) new files =
     (nat_lt greatest_count (length bytes) ≡ false)
-    × (((is_empty bytes ≡ true) × (n ≡ 0) × (new ≡ k) × (files ≡ o)) ⊎ ((is_empty bytes ≡ false) × WriteDoes k file.it.node place bytes (Ok n) new × (files ≡ relengthed o file.it.node (max file.length (behind place n)))))
+    × (((is_empty bytes ≡ true) × (n ≡ 0) × Same k new × (files ≡ o)) ⊎ ((is_empty bytes ≡ false) × WriteDoes k file.it.node place bytes (Ok n) new × (files ≡ relengthed o file.it.node (max file.length (behind place n)))))
 PutDoes k o file place bytes (Err fault) new files = PutFails k o file place bytes fault new files
 
 -- refused by the judge, or what putting the bytes left
 abbrev pub FdRefuses : KfsState → Opens → Result (ℕ × OpenFile) Errno → CoreFault → KfsState → Opens → Type 0
-FdRefuses k o judged (No e) new files = (judged ≡ Err e) × (new ≡ k) × (files ≡ o)
+FdRefuses k o judged (No e) new files = (judged ≡ Err e) × Same k new × (files ≡ o)
 FdRefuses k o judged (Device fault) new files = ⊥
 
 -- what writing at a place did: `place` tells it by the open file

@@ -15,9 +15,11 @@ mod renaming;
 mod resizing;
 mod session;
 mod turning;
+mod unplanned;
 mod whole;
 mod writing;
 
 pub use bounds::sessions_are_light;
 pub use kfs_core::{HostFault, transactions_are_small};
 pub use session::Session;
+pub use unplanned::calls_fail_unplanned_by_memory_alone;

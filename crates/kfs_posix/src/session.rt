@@ -5,7 +5,7 @@ ghost use Rattle.kv_device.specs.Machine.{none_open, begun};
 ghost use Rattle.kv_device.specs.Calls.{Ages};
 ghost use Rattle.kfs_tx.specs.Run.{age_of, Aged};
 ghost use Rattle.kfs_core.specs.Starting.{NotMounted};
-ghost use Rattle.kfs_posix.specs.Answering.{Counts, KeepsCause, refusal, down_after};
+ghost use Rattle.kfs_posix.specs.Answering.{Asks, Counts, KeepsCause, refusal, down_after};
 ghost use Rattle.kfs_posix.specs.Book.{cause_of};
 
 use crate::open_files::OpenFiles;
@@ -67,17 +67,21 @@ impl<D: Device> Session<D> {
     ghost use Rattle.kfs_model.specs.declared.Line.TheVariants as lines;
     ghost use Rattle.kfs_model.specs.declared.Answer.TheVariants as answers;
     ghost use Rattle.kfs_posix.specs.Book.{running_in, limits_of};
+    ghost use Rattle.kfs_damages.specs.Damages.{IsClear};
+    ghost use Rattle.kfs_judge.specs.Judging.{heard, room_in};
     ghost use Rattle.kfs_core.specs.Clearing.{Keeps};
     ghost use Rattle.kfs_posix.specs.Mounting.{Mounts};
     ghost use Rattle.kfs_posix.specs.Showing.{GoesOn};
 
-    /// Goes on from the tree that the device holds, with no descriptor open.
+    /// Goes on from the tree that the device holds, with no descriptor open. Objects that show none, or one
+    /// without room, are refused with the first damage.
     pub fn mount(alloc: Global, device: D) -> Result<Session<D>, (D, HostFault)>
         requires age { D.age device < 2 ^ 63 - 2 ^ 40 }
         requires up { (D.machine device).up ≡ true }
         requires idle { (D.machine device).pending ≡ none_open }
         requires room { (D.machine device).room_keys ≤ 68544 }
         ensures ok { IfOk result (λ s. Mounts (D.machine device) s.book) }
+        ensures clear { OnOk result (IsClear (room_in (D.machine device)) (heard (D.machine device).stable)) }
         ensures begun { IfOk result (λ s. s.book.run.machine ≡ begun (record (D.machine device) { stable = s.book.run.machine.stable }) 0) }
         ensures up { IfOk result (λ s. s.book.down ≡ None) }
         ensures keys { IfOk result (λ s. s.book.keys ≡ (D.machine device).room_keys) }
@@ -137,6 +141,7 @@ impl<D: Device> Session<D> {
         ensures room { limits_of self.new.book ≡ limits_of self.old.book }
         ensures down { KeepsCause self.old.book result self.new.book }
         ensures age { Aged (running_in self.old) (running_in self.new) (2 ^ 38) }
+        ensures asked { Asks call.now result self.new.asked }
     {
         match call {
             Call::Mkdir { path } => self.mkdir(alloc, path.bytes()),
@@ -189,6 +194,7 @@ impl<D: Device> Session<D> {
 
 impl<D: PlannedDevice> Session<D> {
     ghost use Rattle.std.specs.Prelude.{◌≡◌, ◌≤◌, ◌<◌, ◌+◌, ◌-◌, ◌^◌, min};
+    ghost use Rattle.kv_device.specs.Asked.{asks_cut, asks_fault};
     ghost use Rattle.kv_device.specs.Machine.{with_most_cuts, with_most_faults};
     ghost use Rattle.kfs_path.specs.declared.call.Reply.TheVariants as replies;
     ghost use Rattle.kfs_model.specs.declared.Line.TheVariants as lines;
@@ -208,6 +214,7 @@ impl<D: PlannedDevice> Session<D> {
         ensures down { self.new.book.down ≡ self.old.book.down }
         ensures age { self.new.device_age ≡ self.old.device_age }
         ensures numbers { age_of (running_in self.new) ≡ age_of (running_in self.old) }
+        ensures asked { self.new.asked ≡ asks_cut self.old.asked n how }
     {
         self.kfs.plan_cut(n, how);
     }
@@ -224,6 +231,7 @@ impl<D: PlannedDevice> Session<D> {
         ensures down { self.new.book.down ≡ self.old.book.down }
         ensures age { self.new.device_age ≡ self.old.device_age }
         ensures numbers { age_of (running_in self.new) ≡ age_of (running_in self.old) }
+        ensures asked { self.new.asked ≡ asks_fault self.old.asked kind n }
     {
         self.kfs.plan_fail(kind, n);
     }

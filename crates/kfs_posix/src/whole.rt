@@ -1,7 +1,7 @@
 // The calls on the whole file system.
 ghost use Rattle.std.specs.Prelude.{◌≡◌, ◌≤◌, ◌<◌, ◌+◌, ◌-◌, ◌^◌};
 ghost use Rattle.kfs_tx.specs.Run.{age_of, Aged};
-ghost use Rattle.kfs_posix.specs.Answering.{Counts, KeepsCause};
+ghost use Rattle.kfs_posix.specs.Answering.{AsksWork, Counts, KeepsCause};
 
 use crate::session::{Session, refuse};
 use kfs_path::Reply;
@@ -39,6 +39,7 @@ impl<D: Device> Session<D> {
     pub fn work(&mut self, alloc: Global, operations: u32) -> Reply
         requires { age_of (running_in self.old) < 2 ^ 63 - 2 ^ 40 }
         ensures goes_on { GoesOn self.old.book (lines.Call (calls.Work operations)) (answers.Reply result) self.new.book }
+        ensures asked { AsksWork operations result self.new.asked }
         ensures counts { Counts self.old.book.run.machine result self.new.book.run.machine }
         ensures room { limits_of self.new.book ≡ limits_of self.old.book }
         ensures down { KeepsCause self.old.book result self.new.book }

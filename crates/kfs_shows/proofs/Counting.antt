@@ -141,7 +141,7 @@ in_chunks n c (suc k) lt = elim (decide_number c k) [
 ]
 
 -- the first place that has a number
-abbrev place_of : List (Place × ℕ) → ℕ → Option Place
+abbrev pub place_of : List (Place × ℕ) → ℕ → Option Place
 place_of [] n = None
 place_of (e ∷ es) n = cond (eq_by_cmp nat_cmp n e.1) (Some e.0) (place_of es n)
 
@@ -210,7 +210,7 @@ place_missing : (k : Place) (es : List (Place × ℕ)) → T (below_all place_cm
 place_missing k [] h = refl
 place_missing k (e ∷ es) h = ap (λ b. cond b (Some e.1) (find place_cmp k es)) (lt_apart (place_cmp k e.0) (first_of _ _ h)) ∙ place_missing k es (second_of _ _ h)
 
-place_found : (es : List (Place × ℕ)) (n : ℕ) (place : Place) → T (is_sorted place_cmp es) → place_of es n ≡ Some place → find place_cmp place es ≡ Some n
+pub place_found : (es : List (Place × ℕ)) (n : ℕ) (place : Place) → T (is_sorted place_cmp es) → place_of es n ≡ Some place → find place_cmp place es ≡ Some n
 place_found [] n place h e = absurd (cc)
 place_found (x ∷ es) n place h e = by (nat_cmp n x.1) refl (place_found es n place (second_of _ _ h)) e
   where
@@ -226,7 +226,7 @@ place_found (x ∷ es) n place h e = by (nat_cmp n x.1) refl (place_found es n p
     by Greater r rest f = later (rest f)
     by Equal r rest f = ap (λ k. find place_cmp k (x ∷ es)) (sym (same_Some _ _ f)) ∙ ap (λ b. cond b (Some x.1) (find place_cmp x.0 es)) (tie_test places_total same_places x.0) ∙ ap Some (sym (objects.nat_cmp-IsAntisymmetric n x.1 r))
 
-place_none : (es : List (Place × ℕ)) (n : ℕ) (place : Place) → place_of es n ≡ None → find place_cmp place es ≢ Some n
+pub place_none : (es : List (Place × ℕ)) (n : ℕ) (place : Place) → place_of es n ≡ None → find place_cmp place es ≢ Some n
 place_none [] n place e f = absurd (cc)
 place_none (x ∷ es) n place e f = by (place_cmp place x.0) refl (place_none es n place (rest_none e)) f
   where

@@ -42,7 +42,7 @@ root_named q n e = elim (decide_place q []) [
   | inr d ↦ absurd (let t : None ≡ Some n = sym (ap (λ b. cond b (Some 1) None) (apart_test places_total same_places q [] d)) ∙ e in cc)
 ]
 
-not_root : (q : Place) (x : Name) → q ++ x ∷ [] ≢ []
+pub not_root : (q : Place) (x : Name) → q ++ x ∷ [] ≢ []
 not_root q x e = let h : length q + 1 ≡ 0 = sym (length_push q x) ∙ ap length e in absurd (omega arith)
 
 root_below : (q : Place) (x : Name) → number_at root_alone (q ++ x ∷ []) ≡ None

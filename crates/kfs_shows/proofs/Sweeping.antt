@@ -33,12 +33,12 @@ second_of true b h = h
 second_of false b h = absurd h
 
 -- what is below all has no entry
-missing : {K X : Type 0} (R : K → K → Ordering) (k : K) (es : List (K × X)) → T (below_all R k es) → find R k es ≡ None
+pub missing : {K X : Type 0} (R : K → K → Ordering) (k : K) (es : List (K × X)) → T (below_all R k es) → find R k es ≡ None
 missing R k [] h = refl
 missing R k (e ∷ es) h = ap (λ b. cond b (Some e.1) (find R k es)) (lt_apart (R k e.0) (first_of _ _ h)) ∙ missing R k es (second_of _ _ h)
 
 -- some place has a number that some entry has
-any_found : (n : ℕ) (es : List (Place × ℕ)) → T (is_sorted place_cmp es) → list_any (λ e. e.1 == n) es ≡ true → (q : Place) × (find place_cmp q es ≡ Some n)
+pub any_found : (n : ℕ) (es : List (Place × ℕ)) → T (is_sorted place_cmp es) → list_any (λ e. e.1 == n) es ≡ true → (q : Place) × (find place_cmp q es ≡ Some n)
 any_found n [] sorted e = absurd (cc)
 any_found n (x ∷ es) sorted e = by (x.1 == n) refl (any_found n es (second_of _ _ sorted)) e
   where

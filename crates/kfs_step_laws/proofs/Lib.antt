@@ -4,3 +4,4 @@ pub mod Reaching
 pub mod Room
 pub mod Start
 pub mod Walking
+pub mod Plans

@@ -1,8 +1,9 @@
 -- The states' codes, by which proofs tell them apart.
-use Rattle.std.specs.Prelude.{ℕ, Bool, refl}
+use Rattle.std.specs.Prelude.{ℕ, Bool, Option, refl}
 use Rattle.std.specs.Coded.{Coded, code_by, coded×, coded_ℕ, coded_bool, coded_list, coded_option}
 use Rattle.std.specs.FinMap as objects
 use Rattle.kv_device.specs.Objects.{Objects, Changes}
+use Rattle.kv_device.specs.Asked.{Asked}
 use Rattle.kv_device.specs.Machine.{Machine, Transactions}
 use Rattle.kfs_tx.specs.Run.{Run, RunState}
 
@@ -46,5 +47,23 @@ run_code =
     (λ p. record { machine = p.0; tx = p.1.0; changes = p.1.1.0; next = p.1.1.1.0; since = p.1.1.1.1.0; weight = p.1.1.1.1.1 })
     (λ _. refl)
 
+-- two numbers, where there are any
+abbrev pub Words : Type 0
+Words = Option (ℕ × ℕ)
+
+abbrev pub words_code : Coded Words
+words_code = coded_option (coded× coded_ℕ coded_ℕ)
+
+abbrev pub asked_code : Coded Asked
+asked_code =
+    code_by (Words × (Words × ℕ)) (coded× words_code (coded× words_code coded_ℕ))
+    (λ a. (a.cut, (a.fault, a.work)))
+    (λ p. record { cut = p.0; fault = p.1.0; work = p.1.1 })
+    (λ _. refl)
+
 abbrev pub state_code : Coded RunState
-state_code = code_by (Run × ℕ) (coded× run_code coded_ℕ) (λ s. (s.run, s.device_age)) (λ p. record { run = p.0; device_age = p.1 }) (λ _. refl)
+state_code =
+    code_by (Run × (ℕ × Asked)) (coded× run_code (coded× coded_ℕ asked_code))
+    (λ s. (s.run, (s.device_age, s.asked)))
+    (λ p. record { run = p.0; device_age = p.1.0; asked = p.1.1 })
+    (λ _. refl)

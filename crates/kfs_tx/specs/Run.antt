@@ -5,6 +5,7 @@ use Rattle.std.specs.FinMap as objects
 use Rattle.kv_device.specs.declared.fault.DeviceFault.{DeviceFault}
 use Rattle.kv_device.specs.declared.fault.DeviceFault.TheVariants.{NoTx, Busy, TxFull, Full, BadSize, Off, Failed, Memory}
 use Rattle.kv_device.specs.declared.device.TxId.{TxId}
+use Rattle.kv_device.specs.Asked.{Asked}
 use Rattle.kv_device.specs.Objects.{Objects}
 use Rattle.kv_device.specs.Machine.{Machine, Transactions, view, changes_of, with_change, ended, begun}
 use Rattle.kv_device.specs.Calls.{Rises, SetFault, ReadFault, EndFault, set_refusal, has_room, Ages}
@@ -29,6 +30,7 @@ pub record Run : Type 0 where
 pub record RunState : Type 0 where
   pub run : Run
   pub device_age : ℕ  -- the greatest number that the device has written
+  pub asked : Asked  -- what is planned for the device, and the work that it was asked for last
 
 -- the greatest of the device's and the super's numbers
 abbrev pub age_of : RunState → ℕ

@@ -3,6 +3,7 @@ ghost use Rattle.std.specs.Prelude.{◌≡◌, ◌≤◌, ◌<◌, ◌+◌, ◌-
 ghost use Rattle.kv_base.specs.Counts.{one_more};
 ghost use Rattle.std.specs.FinMap as objects;
 ghost use Rattle.kv_device.specs.declared.fault.DeviceFault.TheVariants.{Off};
+ghost use Rattle.kv_device.specs.Asked.{asks_cut, asks_fault};
 ghost use Rattle.kv_device.specs.Machine.{none_open, with_most_cuts, with_most_faults};
 ghost use Rattle.kv_device.specs.Objects.{pairs_from, pair_of};
 ghost use Rattle.kv_device.specs.Calls.{ReadFault, SetFault, DeleteFault, WorkFault, set_refusal, delete_refusal, set_ages, Ages};
@@ -38,7 +39,7 @@ impl<D: Device> Model for Running<D> {
 
     ghost coded = { state_code };
 
-    ghost view = { λ r. record { run = run_of (D.machine r.device) r.tx r.head r.since r.weight; device_age = D.age r.device } };
+    ghost view = { λ r. record { run = run_of (D.machine r.device) r.tx r.head r.since r.weight; device_age = D.age r.device; asked = D.asked r.device } };
 
     ghost invariant = { λ r. IsKept (run_of (D.machine r.device) r.tx r.head r.since r.weight) };
 }
@@ -214,6 +215,7 @@ impl<D: Device> Running<D> {
         ensures cause { IfErr result (λ fault. CausedAlone self.old.run.machine fault self.new.run.machine) }
         ensures kept { OnErr result (self.new.run ≡ record self.old.run { machine = self.new.run.machine }) }
         ensures age { Aged self.old self.new (2 ^ 20) }
+        ensures asked { self.new.asked.work ≡ operations }
     {
         self.device.work(alloc, operations)
     }
@@ -258,6 +260,7 @@ impl<D: PlannedDevice> Running<D> {
         requires how { how ≤ 3 }
         ensures planned { self.new.run ≡ record self.old.run { machine = with_most_cuts self.old.run.machine } }
         ensures age { self.new.device_age ≡ self.old.device_age }
+        ensures asked { self.new.asked ≡ asks_cut self.old.asked n how }
     {
         self.device.plan_cut(n, how);
     }
@@ -270,6 +273,7 @@ impl<D: PlannedDevice> Running<D> {
         ensures fewest { self.old.run.machine.faults ≤ self.new.run.machine.most_faults }
         ensures most { self.new.run.machine.most_faults ≤ one_more self.old.run.machine.faults }
         ensures age { self.new.device_age ≡ self.old.device_age }
+        ensures asked { self.new.asked ≡ asks_fault self.old.asked kind n }
     {
         self.device.plan_fail(kind, n);
     }

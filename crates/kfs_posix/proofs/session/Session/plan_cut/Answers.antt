@@ -1,4 +1,5 @@
 use Rattle.std.proofs.Common.{max, ◌∙◌, ap}
+use Rattle.kv_device.specs.Asked.{asks_cut}
 use Rattle.kv_device.specs.Machine.{with_most_cuts}
 use Rattle.kfs_tx.specs.Run.{Run}
 use Rattle.kfs_posix.specs.Book.{SessionState}
@@ -26,3 +27,6 @@ returns-clause-numbers g c =
     let changes = ap (λ (r : Run). r.changes) c.plan_cut.ensures.planned ∙ ap (λ (s : SessionState). s.book.run.changes) c.self.view_is in
     let next = ap (λ (r : Run). r.next) c.plan_cut.ensures.planned ∙ ap (λ (s : SessionState). s.book.run.next) c.self.view_is in
     λ i. max (device i) (max (changes i) (next i))
+
+pub returns-clause-asked : goal.returns-clause-asked
+returns-clause-asked g c = c.plan_cut.ensures.asked ∙ ap (λ (s : SessionState). asks_cut s.asked c.args.n c.args.how) c.self.view_is

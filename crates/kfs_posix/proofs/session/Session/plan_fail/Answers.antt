@@ -1,5 +1,6 @@
 use Rattle.std.proofs.Common.{max, ◌≤◌, ◌∙◌, ap, subst}
 use Rattle.kv_base.specs.Counts.{one_more}
+use Rattle.kv_device.specs.Asked.{asks_fault}
 use Rattle.kv_device.specs.Machine.{with_most_faults}
 use Rattle.kfs_tx.specs.Run.{Run}
 use Rattle.kfs_posix.specs.Book.{SessionState}
@@ -33,3 +34,6 @@ returns-clause-numbers g c =
     let changes = ap (λ (r : Run). r.changes) c.plan_fail.ensures.planned ∙ ap (λ (s : SessionState). s.book.run.changes) c.self.view_is in
     let next = ap (λ (r : Run). r.next) c.plan_fail.ensures.planned ∙ ap (λ (s : SessionState). s.book.run.next) c.self.view_is in
     λ i. max (device i) (max (changes i) (next i))
+
+pub returns-clause-asked : goal.returns-clause-asked
+returns-clause-asked g c = c.plan_fail.ensures.asked ∙ ap (λ (s : SessionState). asks_fault s.asked c.args.kind c.args.n) c.self.view_is

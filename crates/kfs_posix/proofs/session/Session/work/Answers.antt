@@ -2,6 +2,7 @@ use Rattle.std.proofs.Common.{◌^◌, arith}
 use Rattle.kfs_path.specs.declared.call.Call.TheVariants as calls
 use Rattle.kfs_posix.proofs.Calls.{none_of}
 use Rattle.kfs_posix.proofs.Answered.{off_goes, off_keeps, aged_none, aged_by, age_in}
+use Rattle.kfs_posix.proofs.Asking.{work_asked}
 use Rattle.kfs_posix.proofs.WholeAnswers.{work_answered, work_failed}
 use Rattle.kfs_posix.proofs.session.Session.work.Goals as goal
 
@@ -46,3 +47,6 @@ returns-in-Ok-clause-down g c = (work_answered c.args.self.now c.self.inside.kfs
 
 pub returns-in-Ok-clause-age : goal.returns-in-Ok-clause-age
 returns-in-Ok-clause-age g c = aged_by c.args.self.now c.self.inside.kfs c.work.new.self c.self.inside.files.opens c.self.inside.down (2 ^ 20) (omega arith) c.self.view_is c.in-Ok.ensures.age
+
+pub returns-in-Err-clause-asked : goal.returns-in-Err-clause-asked
+returns-in-Err-clause-asked g c = work_asked c.args.operations c.refuse.result c.work.new.self.running.asked c.work.ensures.asked

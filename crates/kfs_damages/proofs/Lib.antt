@@ -1,0 +1,10 @@
+pub mod Clear
+pub mod Counts
+pub mod Facts
+pub mod Growing
+pub mod Linking
+pub mod Nodes
+pub mod One
+pub mod Reading
+pub mod Sorted
+pub mod Standing

@@ -1,0 +1,5 @@
+pub mod Judged
+pub mod Judging
+pub mod Reaching
+pub mod Rows
+pub mod Tables
