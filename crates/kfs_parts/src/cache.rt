@@ -20,6 +20,8 @@ impl<D: Device> Device for Watched<D> {
 
     ghost age = { λ watched. D.age watched.device };
 
+    ghost asked = { λ watched. D.asked watched.device };
+
     ghost sound = { λ watched. D.sound watched.device };
 
     fn limits(&self) -> (u32, u32) {

@@ -9,6 +9,8 @@ mod contents;
 #[cfg(test)]
 mod device;
 #[cfg(test)]
+mod judged;
+#[cfg(test)]
 mod loads;
 #[cfg(test)]
 mod names;

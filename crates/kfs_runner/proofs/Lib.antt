@@ -6,4 +6,5 @@ pub mod LineCount
 pub mod SeatLaws
 pub mod LoadRuns
 pub mod ServedLines
+pub mod Undamaged
 pub mod Waking

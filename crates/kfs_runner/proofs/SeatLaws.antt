@@ -20,7 +20,7 @@ use Rattle.kfs_model.specs.Life.{State, Live, Now, Up, Down, Past, tree_at, up_a
 use Rattle.kfs_shows.specs.Named.{AllNamed}
 use Rattle.kfs_shows.proofs.Fresh.{root_is_tree, first_shows}
 use Rattle.kfs_shows.proofs.AllNamed.{named_whole}
-use Rattle.kfs_tx.specs.Run.{age_of, Aged}
+use Rattle.kfs_tx.specs.Run.{SameBounds, age_of, Aged}
 use Rattle.kfs_core.specs.declared.fault.HostFault.{HostFault}
 use Rattle.kfs_core.specs.declared.fault.HostFault.TheVariants.{Damaged, Cut, Eio, NoMem}
 use Rattle.kfs_core.specs.Clearing.{Keeps}
@@ -33,7 +33,7 @@ use Rattle.kfs_posix.specs.Showing.{ShowsLive, ShowsNow, ShowsState, IsSaved, Go
 use Rattle.kfs_posix.specs.Mounting.{limits_in, Mounts}
 use Rattle.kfs_runner.specs.Causes.{cause_of_host}
 use Rattle.kfs_runner.specs.Numbers.{line_age}
-use Rattle.kfs_runner.specs.Stores.{NotWoken}
+use Rattle.kfs_runner.specs.Stores.{WakeCause, NotWoken}
 use Rattle.kfs_runner.specs.Strikes.{Strikes, strikes_of, struck, is_cut, is_failure}
 use Rattle.kfs_runner.specs.Seats.{Seated, Mounted, Bare, AreArmed, StandsAt, Stores, IsDown, ShowsBare, Shown, IsNew, shows_seat, seat_limits, seat_machine, seat_strikes, seat_age, device_age, most_of, SeatGoes}
 
@@ -194,8 +194,35 @@ bare_shows m new s t st keeps room now armed =
       };
     }
 
-failed : (l : Limits) (m new : Machine) (s : State) (fault : HostFault) → Stores m s → NotMounted (restarted m) fault new → (t : State) × Event l s lines.Mount (answers.Reply (replies.Down (cause_of_host fault))) t × ShowsBare new t
-failed l m new s (Damaged damage) st not = absurd not.cause
+-- which count rose, by the fault; none does by a damage
+abbrev RoseBy : Machine → HostFault → Machine → Type 0
+RoseBy old (Damaged damage) new = (new.cuts ≡ old.cuts) × (new.faults ≡ old.faults)
+RoseBy old Cut new = HostCause old Cut new
+RoseBy old Eio new = HostCause old Eio new
+RoseBy old NoMem new = HostCause old NoMem new
+
+-- a device fell: the count of the cause rose, and it stores what it stored, without some nameless nodes
+record Fell (old : Machine) (fault : HostFault) (new : Machine) : Type 0 where
+  cause : RoseBy old fault new
+  keeps : Keeps old.stable new.stable
+  bounds : SameBounds old new
+
+failed : (l : Limits) (m new : Machine) (s : State) (fault : HostFault) → Stores m s → Fell (restarted m) fault new → (t : State) × Event l s lines.Mount (answers.Reply (replies.Down (cause_of_host fault))) t × ShowsBare new t
+failed l m new s (Damaged damage) st not =
+    let t = disarmed s causes.NoMem (fallen_now s.now) in
+    let cuts = not.bounds.most_cuts in
+    let faults = not.bounds.most_faults in (
+      t,
+      fails_at l s s.now causes.NoMem refl,
+      bare_shows m new s t st not.keeps (λ i. record { keys = not.bounds.room_keys i; pages = not.bounds.room_pages i }) refl (record {
+        cuts = omega (arith, not.cause.0, cuts, st.armed.cuts);
+        faults = omega (arith, not.cause.1, faults, st.armed.faults);
+        most_cuts = omega (arith, not.cause.0, cuts, st.armed.most_cuts);
+        most_faults = omega (arith, not.cause.1, faults, st.armed.most_faults);
+        few_cuts = omega (arith, cuts, st.armed.few_cuts);
+        few_faults = omega (arith, faults, st.armed.few_faults);
+      }),
+    )
 failed l m new s Cut st not =
     let t = disarmed s causes.Cut (fallen_now s.now) in
     let bound : m.most_cuts ≤ m.cuts + one_if s.cut_armed = omega (arith, st.armed.cuts) in
@@ -246,21 +273,24 @@ failed l m new s NoMem st not =
     )
 
 -- a device without a session stores the same however it is down
-still_not_mounted : (old new : Machine) (fault : HostFault) → NotMounted old fault new → NotMounted old fault (down new)
-still_not_mounted old new (Damaged damage) not = absurd not.cause
-still_not_mounted old new Cut not = record { cause = not.cause; keeps = not.keeps; bounds = record { most_cuts = not.bounds.most_cuts; most_faults = not.bounds.most_faults; room_keys = not.bounds.room_keys; room_pages = not.bounds.room_pages } }
-still_not_mounted old new Eio not = record { cause = not.cause; keeps = not.keeps; bounds = record { most_cuts = not.bounds.most_cuts; most_faults = not.bounds.most_faults; room_keys = not.bounds.room_keys; room_pages = not.bounds.room_pages } }
-still_not_mounted old new NoMem not = record { cause = not.cause; keeps = not.keeps; bounds = record { most_cuts = not.bounds.most_cuts; most_faults = not.bounds.most_faults; room_keys = not.bounds.room_keys; room_pages = not.bounds.room_pages } }
+fell_mounting : (old new : Machine) (fault : HostFault) → NotMounted old fault new → Fell old fault (down new)
+fell_mounting old new fault not = record { cause = by fault not.cause; keeps = not.keeps; bounds = record { most_cuts = not.bounds.most_cuts; most_faults = not.bounds.most_faults; room_keys = not.bounds.room_keys; room_pages = not.bounds.room_pages } }
+  where
+    by : (fault : HostFault) → HostCause old fault new → RoseBy old fault (down new)
+    by (Damaged damage) c = (ap (λ (x : Machine). x.cuts) c.1, ap (λ (x : Machine). x.faults) c.1)
+    by Cut c = c
+    by Eio c = c
+    by NoMem c = c
 
 keeps_same : (m : Objects) → Keeps m m
 keeps_same m = record { each = λ t k tree low shows. (t, kept_all t tree, tree, shows) }
 
--- what could not be woken is not mounted
-woken_not : (old new : Machine) (fault : HostFault) → NotWoken old fault new → NotMounted (restarted old) fault new
-woken_not old new fault not =
+-- so does one that could not be woken
+fell_waking : (old new : Machine) (fault : HostFault) → NotWoken old fault new → Fell (restarted old) fault new
+fell_waking old new fault not =
     let K : Objects → Type 0 = λ o. Keeps old.stable o in
     record {
-      cause = cause_again fault not.cause;
+      cause = by fault not.cause;
       keeps = subst K (sym (ap (λ (x : Machine). x.stable) not.same)) (keeps_same old.stable);
       bounds = record {
         most_cuts = ap (λ (x : Machine). x.most_cuts) not.same;
@@ -270,15 +300,15 @@ woken_not old new fault not =
       };
     }
   where
-    cause_again : (fault : HostFault) → HostCause old fault new → HostCause (restarted old) fault new
-    cause_again (Damaged damage) c = absurd c
-    cause_again Cut c = c
-    cause_again Eio c = c
-    cause_again NoMem c = c
+    by : (fault : HostFault) → WakeCause old fault new → RoseBy (restarted old) fault new
+    by (Damaged damage) c = absurd c
+    by Cut c = c
+    by Eio c = c
+    by NoMem c = c
 
 -- the answer tells the count that rose
-struck_by_fault : (old new : Machine) (fault : HostFault) → old.cuts < 2 ^ 63 → old.faults < 2 ^ 63 → HostCause old fault new → strikes_of new ≡ struck (strikes_of old) (answers.Reply (replies.Down (cause_of_host fault)))
-struck_by_fault old new (Damaged damage) low_cuts low_faults c = absurd c
+struck_by_fault : (old new : Machine) (fault : HostFault) → old.cuts < 2 ^ 63 → old.faults < 2 ^ 63 → RoseBy old fault new → strikes_of new ≡ struck (strikes_of old) (answers.Reply (replies.Down (cause_of_host fault)))
+struck_by_fault old new (Damaged damage) low_cuts low_faults c = unstruck old new (answers.Reply (replies.Down causes.NoMem)) refl refl c.0 c.1
 struck_by_fault old new Cut low_cuts low_faults c =
     let cuts : new.cuts ≡ old.cuts + 1 = omega (arith, c.0.1, low_cuts) in
     let faults : new.faults ≡ old.faults + 0 = omega (arith, c.1) in
@@ -298,7 +328,7 @@ low_counts seat shown =
     let armed = (seat_stores seat shown.0 shown.1).armed in
     (omega (arith, armed.most_cuts, armed.few_cuts), omega (arith, armed.most_faults, armed.few_faults))
 
-falls_to : (seat : Seated) (new : Machine) (fault : HostFault) (age : ℕ) → Shown seat → NotMounted (restarted (seat_machine seat)) fault new → age ≤ device_age seat + line_age → SeatGoes seat lines.Mount (answers.Reply (replies.Down (cause_of_host fault))) (Bare new age)
+falls_to : (seat : Seated) (new : Machine) (fault : HostFault) (age : ℕ) → Shown seat → Fell (restarted (seat_machine seat)) fault new → age ≤ device_age seat + line_age → SeatGoes seat lines.Mount (answers.Reply (replies.Down (cause_of_host fault))) (Bare new age)
 falls_to seat new fault age shown here aged =
     let cuts = here.bounds.most_cuts in
     let faults = here.bounds.most_faults in
@@ -319,15 +349,15 @@ pub mount_falls : (seat : Seated) (m new store : Machine) (fault : HostFault) (c
 mount_falls seat m new store fault cause age shown up not rests aged is =
     let P : Machine → Type 0 = λ x. NotMounted x fault new in
     let Q : Cause → Type 0 = λ c. SeatGoes seat lines.Mount (answers.Reply (replies.Down c)) (Bare store age) in
-    let R : Machine → Type 0 = λ x. NotMounted (restarted (seat_machine seat)) fault x in
-    subst Q (sym is) (falls_to seat store fault age shown (subst R (sym rests) (still_not_mounted (restarted (seat_machine seat)) new fault (subst P up not))) aged)
+    let R : Machine → Type 0 = λ x. Fell (restarted (seat_machine seat)) fault x in
+    subst Q (sym is) (falls_to seat store fault age shown (subst R (sym rests) (fell_mounting (restarted (seat_machine seat)) new fault (subst P up not))) aged)
 
 -- so does a device that can't be woken
 pub wake_falls : (seat : Seated) (old new : Machine) (fault : HostFault) (cause : Cause) (age : ℕ) → Shown seat → down old ≡ down (seat_machine seat) → NotWoken old fault new → age ≤ device_age seat + line_age → cause ≡ cause_of_host fault → SeatGoes seat lines.Mount (answers.Reply (replies.Down cause)) (Bare new age)
 wake_falls seat old new fault cause age shown rests not aged is =
-    let P : Machine → Type 0 = λ x. NotMounted x fault new in
+    let P : Machine → Type 0 = λ x. Fell x fault new in
     let Q : Cause → Type 0 = λ c. SeatGoes seat lines.Mount (answers.Reply (replies.Down c)) (Bare new age) in
-    subst Q (sym is) (falls_to seat new fault age shown (subst P (ap restarted rests) (woken_not old new fault not)) aged)
+    subst Q (sym is) (falls_to seat new fault age shown (subst P (ap restarted rests) (fell_waking old new fault not)) aged)
 
 -- ---- a call
 

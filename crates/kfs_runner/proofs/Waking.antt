@@ -1,15 +1,17 @@
 -- A flash on which no device is mounted.
-use Rattle.std.proofs.Common.{◌≡◌, ◌∙◌, true, false, inl, inr, refl, sym, ap}
+use Rattle.std.proofs.Common.{◌≡◌, ◌≤◌, ◌∙◌, ℕ, true, false, inl, inr, refl, sym, ap, subst}
 use Rattle.std.proofs.lemmas.Bool.{false≢true}
 use Rattle.kv_nand.specs.Flash.{Flash}
 use Rattle.kv_nand.specs.declared.fault.MountFault.{MountFault}
 use Rattle.kv_nand.specs.declared.fault.MountFault.TheVariants as mount
+use Rattle.kv_nand.specs.Calls.{powered_on}
 use Rattle.kv_device.specs.Machine.{Machine}
 use Rattle.kssd_image.specs.Whole.{Sound}
 use Rattle.kssd_image.proofs.OneDamage.{sound_has_none}
 use Rattle.kssd_machine.specs.Machines.{resting}
+use Rattle.kssd_mounted.specs.Standing.{Leaves}
 use Rattle.kssd_mount.specs.Mounting.{FailsMounting}
-use Rattle.kfs_runner.specs.Flashes.{host_fault}
+use Rattle.kfs_runner.specs.Flashes.{CanRest, host_fault}
 use Rattle.kfs_runner.specs.Stores.{NotWoken}
 
 -- a mount that fails on a flash with power leaves a device that is down, with the same objects
@@ -22,3 +24,13 @@ not_woken old new mount.Memory sound on fails =
     let cuts = ap (λ (m : Machine). m.cuts) fails in
     let faults = ap (λ (m : Machine). m.faults) fails in
     record { cause = (cuts, faults); same = fails ∙ λ i. record (resting old) { cuts = sym cuts i; faults = sym faults i } }
+
+-- what a mount left that failed can be mounted again
+pub left_rests : (old on new : Flash) (age : ℕ) → CanRest old → on ≡ powered_on old → Leaves on age new → CanRest new
+left_rests old on new age rests power leaves =
+    let blocks : new.blocks ≡ old.blocks = leaves.blocks ∙ ap (λ (f : Flash). f.blocks) power in
+    record {
+      least = subst (λ n. 256 ≤ n) (sym blocks) rests.least;
+      most = subst (λ n. n ≤ 2048) (sym blocks) rests.most;
+      whole = leaves.whole;
+    }

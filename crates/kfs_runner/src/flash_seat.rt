@@ -17,11 +17,11 @@ use kfs_core::format;
 use kssd_engine::Ssd;
 use kv_base::Memory;
 use kv_device::Device;
-use kv_nand::{Nand, PlannedNand};
+use kv_nand::PlannedNand;
 use std::alloc::Global;
 
 // An empty device on a flash.
-fn new_device<N: Nand + Drop>(alloc: Global, nand: N) -> Result<Ssd<N>, Memory>
+fn new_device<N: PlannedNand + Drop>(alloc: Global, nand: N) -> Result<Ssd<N>, Memory>
     requires { (256 ≤ (N.flash nand).blocks) × ((N.flash nand).blocks ≤ 2048) }
     ensures machine { IfOk result (λ device. ⟦<Ssd<N> as Device>⟧.machine device ≡ new_on (N.flash nand)) }
     ensures age { IfOk result (λ device. ⟦<Ssd<N> as Device>⟧.age device ≤ 2 ^ 21) }
