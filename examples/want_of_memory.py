@@ -1,12 +1,13 @@
 #!/usr/bin/env python3
-"""Lets each allocation of the proved program fail in turn, over the rows of scripts in crates/kevin_rows.
+"""Lets allocations of the proved program fail in turn, over some rows of scripts in crates/kevin_rows.
 
 usage: examples/want_of_memory.py [PROGRAM]     (crates/kevin/out/kevin, which `rt run` in crates/kevin leaves)
 
 Two mounts are added to each row. Each run must end with status 7 and no text, or answer as wanted up to one line
 that answers `down nomem`; the lines behind it answer `off` up to the next mount, and that mount goes on from no
-change before the last sync that answered. Of a row with more than 1,500 allocations every so many is tried. The status is 1 where a run
-does otherwise. It wants cc, since the allocator is told by a library that is loaded before the C library.
+change before the last sync that answered. A run has the 34 MB of its flash, so of the allocations that a
+format takes FORMAT_TRIES are tried, and of those behind it LINE_TRIES, evenly spread; all ends in a few minutes. The
+status is 1 where a run does otherwise. It wants cc, since the allocator is told by a library that is loaded before the C library.
 """
 import os
 import re
@@ -14,6 +15,25 @@ import shutil
 import subprocess
 import sys
 import tempfile
+
+# The rows: each kind of call, with boundaries, syncs and mounts, and none that fills a device.
+ROWS = (
+    "a mount behind a sync",
+    "seventy directories meet a boundary after sixty-four changes",
+    "bytes between two writes read as zero",
+    "truncate by a path and by a descriptor",
+    "an open that empties a file",
+    "a file without a name lives until the mount",
+    "a directory goes below another",
+    "the tree in the order of bytes",
+    "a file replaces a file",
+    "a directory replaces an empty one",
+    "a file is cut short, grown and emptied",
+    "errors while all descriptors are open",
+)
+
+# How many allocations of a format fail in a row, and how many of the lines behind it.
+FORMAT_TRIES, LINE_TRIES = 4, 80
 
 FAILING = r"""
 #define _GNU_SOURCE
@@ -58,15 +78,21 @@ def lines_of(row):
 
 
 def rows_of(folder):
-    """The rows of scripts in which nothing is to fail: lines and answers."""
+    """The rows by their names: lines and answers."""
     scripts = open(folder + "/stdin").read().split("\n-- ")[1:]
     answers = ("\n" + open(folder + "/stdout").read()).split("\n-- ")[1:]
+    rows = {}
     for script, answer in zip(scripts, answers):
         name, *lines = script.splitlines()
         told, status, *answer = answer.splitlines()
         assert name == told, f"{name} is told as {told}"
-        if status == "= 0" and not any(line.startswith(("$", "@cut", "@fail")) for line in lines):
-            yield list(lines_of(lines)), answer
+        rows[name] = list(lines_of(lines)), answer
+    return [rows[name] for name in ROWS]
+
+
+def some_of(first, end, most):
+    """So many numbers from the first on, evenly spread."""
+    return range(first, end, 1 + (end - first - 1) // most)
 
 
 def by_line(lines, told):
@@ -135,6 +161,7 @@ def main():
         return done.returncode, done.stdout, int(done.stderr)
 
     runs, wrong = 0, 0
+    _, _, formatted = run(["@format 256"], 0)
     for lines, want in rows_of(here + "/crates/kevin_rows"):
         status, text, _ = run(lines, 0)
         if status != 0 or text.splitlines() != want:
@@ -143,7 +170,7 @@ def main():
         _, text, count = run(lines, 0)
         want = by_line(lines, text.splitlines())
         kept = kept_by(lines, want, run)
-        for n in range(1, count + 1, 1 + count // 150):
+        for n in [*some_of(1, formatted, FORMAT_TRIES), *some_of(formatted, count + 1, LINE_TRIES)]:
             status, text, _ = run(lines, n)
             fault = fault_of(lines, want, kept, status, text)
             runs += 1
