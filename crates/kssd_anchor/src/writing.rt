@@ -57,6 +57,7 @@ fn next_place<N: Nand>(alloc: Global, nand: &mut N, last: Option<u32>) -> Result
     ensures ok { IfOk result (λ page. IsPlace (N.flash nand.old).image last page (N.flash nand.new).image) }
     ensures works { OnOk result (Works (N.flash nand.old) (N.flash nand.new) 1 32) }
     ensures stops { IfErr result (λ fault. Stops (N.flash nand.old) fault (N.flash nand.new) 1 32) }
+    ensures within { IfErr result (λ fault. Stops (N.flash nand.old) fault (N.flash nand.new) (erases_before (N.flash nand.old).image last) 32) }
     ensures exact { OnOk result ((N.flash nand.new).ops ≡ ops_more (N.flash nand.old) (erases_before (N.flash nand.old).image last)) }
     ensures left { IsLeftByPlace (N.flash nand.old).image last (N.flash nand.new).image }
     ensures memory { IsErrOf result FlashFault.Memory → N.flash nand.new ≡ N.flash nand.old }
@@ -100,7 +101,7 @@ pub fn cost<N: Nand>(alloc: Global, nand: &mut N, last: Option<u32>) -> Result<u
 
 /// Writes an anchor in the next place, and answers its page. `last` is the page of the newest
 /// anchor, whose number is lower, or there is none and both blocks of anchors are erased. It takes
-/// as many operations as `cost` told. At each fault the newest anchor is the one before or the one
+/// as many operations as `cost` told, and no more where it stops. At each fault the newest anchor is the one before or the one
 /// given. The flash has 256 to 2,048 blocks.
 pub fn write<N: Nand>(
     alloc: Global,
@@ -116,6 +117,7 @@ pub fn write<N: Nand>(
     ensures exact { OnOk result ((N.flash nand.new).ops ≡ ops_more (N.flash nand.old) (write_cost (N.flash nand.old).image last)) }
     ensures err { OnErr result (IsOldOrGiven (N.flash nand.old).image anchor.now (N.flash nand.new).image) }
     ensures stops { IfErr result (λ fault. Stops (N.flash nand.old) fault (N.flash nand.new) 2 32) }
+    ensures within { IfErr result (λ fault. Stops (N.flash nand.old) fault (N.flash nand.new) (write_cost (N.flash nand.old).image last) 32) }
     ensures behind { SameBehind (N.flash nand.old).image (N.flash nand.new).image }
     ensures memory { IsErrOf result FlashFault.Memory → N.flash nand.new ≡ N.flash nand.old }
 {

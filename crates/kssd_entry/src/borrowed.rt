@@ -1,11 +1,12 @@
 // An entry as it lies in bytes.
 ghost use Rattle.std.specs.Prelude.{◌≡◌, IfOk};
+ghost use Rattle.kv_base.specs.Sizes.{IsKey};
 ghost use Rattle.kssd_entry.specs.Spelling.{FitsEntry};
 ghost use Rattle.kssd_entry.specs.Sizes.{IsInline};
 ghost use Rattle.kssd_entry.specs.Borrowed.{entry_in, is_key_below, is_of_key};
 
 use crate::{Entry, InlineValue, PageLength};
-use kv_base::{Key, Memory, Value};
+use kv_base::{Key, Memory, SizeFault, Value};
 use std::alloc::Global;
 
 /// What follows the key of an entry.
@@ -59,11 +60,13 @@ impl<'a> BorrowedEntry<'a> {
 }
 
 fn key_from(alloc: Global, bytes: &[u8]) -> Result<Key, Memory>
+    requires { IsKey bytes.now }
     ensures { IfOk result (λ key. key ≡ bytes.now) }
 {
     match Key::new(alloc, bytes) {
         Ok(key) => Ok(key),
-        Err(_) => Err(Memory),
+        Err(SizeFault::Memory) => Err(Memory),
+        Err(SizeFault::BadLength) => unreachable!(),
     }
 }
 
@@ -73,6 +76,7 @@ fn value_from(alloc: Global, bytes: &[u8]) -> Result<InlineValue, Memory>
 {
     match Value::new(alloc, bytes) {
         Ok(value) => Ok(InlineValue::new(value)),
-        Err(_) => Err(Memory),
+        Err(SizeFault::Memory) => Err(Memory),
+        Err(SizeFault::BadLength) => unreachable!(),
     }
 }

@@ -10,6 +10,7 @@ ghost use Rattle.kssd_entry.specs.Reading.{EntryGives, EntryIs, number_at, key_a
 use crate::borrowed::{BorrowedBody, BorrowedEntry};
 use crate::fault::EntryFault;
 use crate::{Entry, PageLength};
+use kv_base::Memory;
 use std::alloc::Global;
 
 fn u16_at(bytes: &[u8]) -> Result<(u16, &[u8]), EntryFault>
@@ -147,7 +148,7 @@ pub fn entry_of(alloc: Global, bytes: &[u8]) -> Result<(Entry, &[u8]), EntryFaul
     match borrowed_at(bytes) {
         Ok((borrowed, rest)) => match borrowed.entry(alloc) {
             Ok(entry) => Ok((entry, rest)),
-            Err(_) => Err(EntryFault::Memory),
+            Err(Memory) => Err(EntryFault::Memory),
         },
         Err(fault) => Err(fault),
     }

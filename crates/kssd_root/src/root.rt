@@ -80,6 +80,7 @@ impl Root {
         ensures works { OnOk result (Works (N.flash nand.old) (N.flash nand.new) 2 32) }
         ensures exact { OnOk result ((N.flash nand.new).ops ≡ ops_more (N.flash nand.old) (write_cost (N.flash nand.old).image (Some self.old.page))) }
         ensures stops { IfErr result (λ fault. Stops (N.flash nand.old) fault (N.flash nand.new) 2 32) }
+        ensures within { IfErr result (λ fault. Stops (N.flash nand.old) fault (N.flash nand.new) (write_cost (N.flash nand.old).image (Some self.old.page)) 32) }
     {
         let next = next_anchor(alloc, &self.anchor, &self.levels, log_block, log_seq)?;
         self.page = write(alloc, nand, Some(self.page), &next)?;

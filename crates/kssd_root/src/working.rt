@@ -60,7 +60,7 @@ impl Root {
         ensures aged { age_in (N.flash nand.new).image ≤ age_by (N.flash nand.old).image self.old.anchor + 1 }
         ensures works { OnOk result (Works (N.flash nand.old) (N.flash nand.new) 2 32) }
         ensures exact { OnOk result ((N.flash nand.new).ops ≡ ops_more (N.flash nand.old) (write_cost (N.flash nand.old).image (Some self.old.page))) }
-        ensures stops { IfErr result (λ fault. Stops (N.flash nand.old) fault (N.flash nand.new) 2 32) }
+        ensures stops { IfErr result (λ fault. Stops (N.flash nand.old) fault (N.flash nand.new) (write_cost (N.flash nand.old).image (Some self.old.page)) 32) }
     {
         let run = job.into_run();
         self.levels.install(alloc, kind, run)?;
@@ -91,7 +91,7 @@ impl Root {
         ensures aged { age_in (N.flash nand.new).image ≤ age_by (N.flash nand.old).image self.old.anchor + 1 }
         ensures works { OnOk result (Works (N.flash nand.old) (N.flash nand.new) 2 32) }
         ensures exact { OnOk result ((N.flash nand.new).ops ≡ ops_more (N.flash nand.old) (write_cost (N.flash nand.old).image (Some self.old.page))) }
-        ensures stops { IfErr result (λ fault. Stops (N.flash nand.old) fault (N.flash nand.new) 2 32) }
+        ensures stops { IfErr result (λ fault. Stops (N.flash nand.old) fault (N.flash nand.new) (write_cost (N.flash nand.old).image (Some self.old.page)) 32) }
     {
         let run = job.into_run();
         self.levels.install(alloc, JobKind::Flush, run)?;

@@ -127,9 +127,9 @@ impl MapDevice {
                 }
                 match slot.put(alloc, key, value) {
                     Ok(()) => Ok(()),
-                    Err(_) => {
+                    Err(fault) => {
                         self.fall();
-                        Err(DeviceFault::Memory)
+                        Err(DeviceFault::from(fault))
                     }
                 }
             }
@@ -211,7 +211,7 @@ impl MapDevice {
         match self.strike() {
             None => match self.commit(alloc, tx) {
                 Ok(()) => Ok(()),
-                Err(_) => Err(DeviceFault::Memory),
+                Err(fault) => Err(DeviceFault::from(fault)),
             },
             Some(Strike::Fault) => {
                 self.fail();
@@ -232,8 +232,8 @@ impl MapDevice {
         ensures plans { plans_of self.new ≡ plans_of self.old }
     {
         if keeps {
-            if let Err(_) = self.commit(alloc, tx) {
-                return DeviceFault::Memory;
+            if let Err(fault) = self.commit(alloc, tx) {
+                return DeviceFault::from(fault);
             }
             self.cut();
             return DeviceFault::Off;
@@ -315,9 +315,9 @@ impl Device for MapDevice {
         match self.slot(tx) {
             Ok(slot) => match slot.found(alloc, &self.stable.map, key) {
                 Ok(value) => Ok(value),
-                Err(_) => {
+                Err(fault) => {
                     self.fall();
-                    Err(DeviceFault::Memory)
+                    Err(DeviceFault::from(fault))
                 }
             },
             Err(fault) => Err(fault),
@@ -365,9 +365,9 @@ impl Device for MapDevice {
                 .pairs_through(alloc, &self.stable.map, from, prefix, at_most)
             {
                 Ok(pairs) => Ok(pairs),
-                Err(_) => {
+                Err(fault) => {
                     self.fall();
-                    Err(DeviceFault::Memory)
+                    Err(DeviceFault::from(fault))
                 }
             },
             Err(fault) => Err(fault),

@@ -19,4 +19,4 @@ returns-in-Err-clause-err c =
     let s = c.args.self.now in
     let now = changes-read s.pending c.args.tx.0 c.index-self-number.result c.in-Some.slot (omega arith) c.index-self-number.is (c.index-self-number.is ∙ c.in-Some.is) in
     let full = is_tx_full-is (machine_of s) c.args.tx.0 c.args.key.now _ _ false now c.change_total-total.ensures c.if-is_full.ensures in
-    subst (λ r. IsFault r FallsReading (machine_of s) Memory (machine_of c.fall.new.self)) (sym (delete_allowed (machine_of s) c.args.tx.0 c.args.key.now _ c.if-not-self.false now full)) c.fall.ensures.machine
+    rw c.from.ensures (subst (λ r. IsFault r FallsReading (machine_of s) Memory (machine_of c.fall.new.self)) (sym (delete_allowed (machine_of s) c.args.tx.0 c.args.key.now _ c.if-not-self.false now full)) c.fall.ensures.machine)
