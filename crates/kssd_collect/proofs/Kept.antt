@@ -1,5 +1,5 @@
 -- What stays of a device while pages of values are copied and erased.
-use Rattle.std.proofs.Common.{◌≡◌, ◌≢◌, ◌∙◌, ◌⊎◌, inl, inr, ℕ, ◌+◌, ◌-◌, ◌*◌, ◌/◌, ◌<◌, ◌≤◌, Bool, true, false, cond, List, length, Option, Some, None, refl, sym, ap, subst, arith}
+use Rattle.std.proofs.Common.{◌≡◌, ◌≢◌, ◌∙◌, inl, inr, ℕ, ◌+◌, ◌-◌, ◌*◌, ◌/◌, ◌<◌, ◌≤◌, Bool, true, false, cond, List, length, Option, Some, None, refl, sym, ap, subst, arith}
 use Rattle.std.proofs.lemmas.Bool.{cases_eq}
 use Rattle.kv_nand.specs.Flash.{Flash, Image}
 use Rattle.kv_nand.specs.Working.{Works}
@@ -33,7 +33,6 @@ use Rattle.kssd_mounted.specs.declared.mounted.Mounted.{Mounted}
 use Rattle.kssd_mounted.specs.Collections.{IsUnderWay, CollectsIn}
 use Rattle.kssd_mounted.specs.Standing.{Stands, Leaves, mounted_age}
 use Rattle.kssd_mounted.proofs.BesideValues.{index_stands}
-use Rattle.kssd_collect.specs.Copied.{HasCopies}
 use Rattle.kssd_collect.specs.Collecting.{IsBusy, IsCollected, IsEmptied, IsUsedTheSame, FreesBlock}
 
 -- ---- the device

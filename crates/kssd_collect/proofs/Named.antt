@@ -28,6 +28,7 @@ use Rattle.kssd_values.specs.Changes.{SamePlaces}
 use Rattle.kssd_index.specs.declared.index.Index.{Index}
 use Rattle.kssd_index.specs.Standing.{IsIndex}
 use Rattle.kssd_root.specs.Mapping.{with_entries, IsBeforeOrAfter}
+use Rattle.kssd_log.specs.Append.{pages_of}
 use Rattle.kssd_index.specs.Costs.{group_cost}
 use Rattle.kssd_root.proofs.Logs.{has_bytes}
 use Rattle.kssd_reclaim.specs.declared.copies.CopyOf.{CopyOf}
@@ -52,7 +53,7 @@ use Rattle.kssd_mounted.specs.Standing.{Leaves, mounted_age}
 use Rattle.kssd_collect.specs.Moved.{CopiesStand, moved_mark, AreCopiesDead, HoldTheSame}
 use Rattle.kssd_collect.specs.Collecting.{IsCopied, IsEmptied}
 use Rattle.kssd_collect.proofs.Moves.{apart, target_block, places_then}
-use Rattle.kssd_collect.proofs.Short.{group_is_short}
+use Rattle.kssd_collect.proofs.Short.{group_in_a_page, group_is_short}
 
 -- ---- the moves
 
@@ -100,6 +101,9 @@ pages_low r m flash es h = subst (λ n. n ≤ max_pages_in flash.blocks) (sym (p
 -- the group of the moves is short
 pub group_short : (r : Reclaim) (m : Mounted) (flash : Flash) (es : List Entry) → AreOrdered r m flash es → group_cost m.index es ≤ 3
 group_short r m flash es h = subst (λ (xs : List Entry). group_cost m.index xs ≤ 3) (sym h.is) (group_is_short m.index r m.values flash.image (moves r m flash h.copied) (few_copies r m flash h.copied))
+
+pub group_paged : (r : Reclaim) (m : Mounted) (flash : Flash) (es : List Entry) → AreOrdered r m flash es → pages_of es ≤ 1
+group_paged r m flash es h = subst (λ (xs : List Entry). pages_of xs ≤ 1) (sym h.is) (group_in_a_page r m.values flash.image (moves r m flash h.copied) (few_copies r m flash h.copied))
 
 -- ---- the log
 

@@ -1,20 +1,22 @@
 -- The group of a collection's moves fits into one page.
-use Rattle.std.proofs.Common.{◌≡◌, ◌∙◌, ℕ, suc, ◌+◌, ◌-◌, ◌*◌, ◌/◌, ◌%◌, ◌<◌, ◌≤◌, Bool, true, cond, List, [], ◌∷◌, length, map, sum_by, refl, ap, subst, arith}
+use Rattle.std.proofs.Common.{◌≡◌, ◌∙◌, ℕ, suc, ◌+◌, ◌-◌, ◌*◌, ◌/◌, ◌%◌, ◌≤◌, true, cond, List, [], ◌∷◌, length, map, sum_by, refl, ap, arith}
 use Rattle.std.specs.Prelude.{filter}
 use Rattle.std.specs.List.{list_all}
 use Rattle.std.proofs.lemmas.Bool.{and_parts, lt-ltb, le-ltb}
 use Rattle.std.proofs.lemmas.List.{length-map}
 use Rattle.std.proofs.lemmas.List.Sums.{sum_by-cons}
-use Rattle.kv_nand.specs.Flash.{Image, Flash}
+use Rattle.kv_nand.specs.Flash.{Image}
 use Rattle.kssd_entry.specs.declared.entry.Entry.{Entry}
 use Rattle.kssd_entry.specs.declared.entry.Entry.TheVariants.{Put, At, Gone}
 use Rattle.kssd_entry.specs.Spelling.{size_of}
 use Rattle.kssd_model.specs.Rising.{merged}
+use Rattle.kssd_log.specs.Ring.{room_of}
 use Rattle.kssd_log.specs.Append.{pages_more, pages_of}
 use Rattle.kssd_image.specs.ValuePages.{has_value}
 use Rattle.kssd_image.specs.Whole.{is_value_block, has_its_value}
 use Rattle.kssd_image.proofs.ValuePages.{holds_from}
 use Rattle.kssd_index.specs.declared.index.Index.{Index}
+use Rattle.kssd_index.specs.Standing.{IsIndex}
 use Rattle.kssd_index.specs.Costs.{group_cost}
 use Rattle.kssd_values.specs.declared.values.Values.{Values}
 use Rattle.kssd_values.specs.Blocks.{device_of, mark_at}
@@ -80,12 +82,25 @@ same_bytes moves differ =
 
 -- ---- the group
 
-pub group_is_short : (index : Index) (r : Reclaim) (v : Values) (image : Image) → AreMoves r v image (moves_of r v) → length (copies_of r) ≤ 31 → group_cost index (merged (moves_of r v) []) ≤ 3
-group_is_short index r v image are few =
+pub group_in_a_page : (r : Reclaim) (v : Values) (image : Image) → AreMoves r v image (moves_of r v) → length (copies_of r) ≤ 31 → pages_of (merged (moves_of r v) []) ≤ 1
+group_in_a_page r v image are few =
     let cs = filter (λ copy. is_visible (mark_at v copy.source)) (copies_of r) in
     let bytes = short_moves (device_of v) image cs are.valued in
     let count = few_moves r v in
     let same = length-map cs move_of in
     let sum = same_bytes (moves_of r v) are.differ in
-    let pages = one_page (merged (moves_of r v) []) (omega arith) in
-    omega arith
+    one_page (merged (moves_of r v) []) (omega arith)
+
+-- a group of one page may take a turn, but behind a turn it takes none
+pub page_with_turn : (index : Index) (es : List Entry) → pages_of es ≤ 1 → group_cost index es ≤ 3
+page_with_turn index es pages = omega arith
+
+pub page_behind_turn : (index : Index) (blocks : ℕ) (image : Image) (es : List Entry) → IsIndex index blocks image → room_of index.ring ≡ 248 → pages_of es ≤ 1 → group_cost index es ≤ 1
+page_behind_turn index blocks image es stands room pages =
+    let eight = stands.log.blocks in
+    let first : index.ring.page % 32 ≡ 0 = omega (arith, room, eight) in
+    let none : (index.ring.page % 32 + pages_of es - 1) / 31 ≡ 0 = omega (arith, first, pages) in
+    omega (arith, pages, none)
+
+pub group_is_short : (index : Index) (r : Reclaim) (v : Values) (image : Image) → AreMoves r v image (moves_of r v) → length (copies_of r) ≤ 31 → group_cost index (merged (moves_of r v) []) ≤ 3
+group_is_short index r v image are few = page_with_turn index (merged (moves_of r v) []) (group_in_a_page r v image are few)

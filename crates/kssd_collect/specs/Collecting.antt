@@ -1,6 +1,7 @@
 -- A device whose block of values is being collected.
-use Rattle.std.specs.Prelude.{◌≡◌, ◌≢◌, ◌⊎◌, ◌≤◌, ◌<◌, ◌+◌, ◌/◌, [], ℕ, Bool, true, false, length, None}
+use Rattle.std.specs.Prelude.{◌≡◌, ◌≢◌, ◌⊎◌, ◌≤◌, ◌<◌, ◌+◌, ◌/◌, ◌^◌, [], ℕ, Bool, true, false, length, None}
 use Rattle.kv_nand.specs.Flash.{Flash}
+use Rattle.kv_nand.specs.Working.{Works, ops_more}
 use Rattle.kssd_image.specs.Stages.{shown_in}
 use Rattle.kssd_image.specs.Whole.{pages_named, IsWhole}
 use Rattle.kssd_model.specs.Rising.{merged}
@@ -64,3 +65,11 @@ pub record IsUsedTheSame (v w : Values) : Type 0 where
 -- after a collection the open block has an Erased page, or no block was copied into and one more is free
 abbrev pub FreesBlock : Values → Values → Type 0
 FreesBlock v w = (open_room w ≢ 0) ⊎ ((has_target v ≡ false) × (free_count w ≡ free_count v + 1))
+
+-- a collection has ended with one to four operations
+pub record EndsInFew (old new : Flash) : Type 0 where
+  pub ops : ℕ
+  pub some : 1 ≤ ops
+  pub few : ops ≤ 4
+  pub works : Works old new 4 (2 ^ 64)
+  pub exact : new.ops ≡ ops_more old ops

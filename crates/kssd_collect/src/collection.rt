@@ -1,14 +1,14 @@
-ghost use Rattle.std.specs.Prelude.{◌≡◌, ◌≢◌, ◌≤◌, ◌+◌, ◌-◌, ◌*◌, ◌^◌, [], None, true, false, length, unwrap_or, IfOk, IfSome, OnOk, IfErr};
+ghost use Rattle.std.specs.Prelude.{◌≡◌, ◌≢◌, ◌≤◌, ◌+◌, ◌-◌, ◌*◌, ◌^◌, [], None, true, false, unwrap_or, IfOk, IfSome, OnOk, IfErr};
 ghost use Rattle.kv_nand.specs.Working.{Works, Stops, ops_more};
 ghost use Rattle.kssd_tx.specs.Lists.{AreLists};
 ghost use Rattle.kssd_image.specs.Stages.{objects_in};
-ghost use Rattle.kssd_values.specs.Places.{IsValueBlock};
-ghost use Rattle.kssd_values.specs.Blocks.{device_of, free_room, has_target, free_count};
-ghost use Rattle.kssd_reclaim.specs.Reclaim.{block_of, copies_of, AllCopied};
+ghost use Rattle.kssd_values.specs.Blocks.{free_room, has_target, free_count};
+ghost use Rattle.kssd_reclaim.specs.Reclaim.{copies_of, AllCopied};
+ghost use Rattle.kssd_index.specs.Standing.{has_frozen};
 ghost use Rattle.kssd_root.specs.Costs.{most_place_cost};
 ghost use Rattle.kssd_mounted.specs.Standing.{Stands, mounted_age, machine_at, Leaves};
 ghost use Rattle.kssd_collect.specs.Costs.{most_finish_cost, most_collect_cost, most_collect_reads};
-ghost use Rattle.kssd_collect.specs.Collecting.{IsCollected, IsCopied, IsEmptied, has_place_for, IsUsedTheSame, FreesBlock};
+ghost use Rattle.kssd_collect.specs.Collecting.{IsCollected, IsCopied, IsEmptied, has_place_for, IsUsedTheSame, FreesBlock, EndsInFew};
 
 use crate::copying::copy_some;
 use crate::logging::{log_entries, ordered_moves};
@@ -17,7 +17,6 @@ use crate::taking::take_up;
 use kssd_mounted::Mounted;
 use kssd_reclaim::Reclaim;
 use kssd_tx::{TxId, TxTable};
-use kv_base::Memory;
 use kv_nand::{FlashFault, Nand};
 use std::alloc::Global;
 
@@ -108,18 +107,8 @@ pub fn copy_block<N: Nand>(
     Ok(left)
 }
 
-/// Whether the group that names the copies in place of the visible pages has place in the log.
-pub fn has_place(alloc: Global, mounted: &Mounted, reclaim: &Reclaim) -> Result<bool, Memory>
-    requires block { IsValueBlock (device_of mounted.now.values) (block_of reclaim.now) }
-    requires few { length (copies_of reclaim.now) ≤ 31 }
-    ensures { IfOk result (λ has. has ≡ has_place_for reclaim.now mounted.now) }
-{
-    let moves = ordered_moves(alloc, reclaim, &mounted.values)?;
-    Ok(mounted.index.has_place(&moves))
-}
-
 /// Ends a collection of which all is copied: names the copies in place of the pages and erases the block,
-/// in at most 4 operations where the group of names has place in the log.
+/// in at most 4 operations where the group of names has place in the log, or no table is frozen.
 pub fn finish<N: Nand>(
     alloc: Global,
     nand: &mut N,
@@ -142,6 +131,9 @@ pub fn finish<N: Nand>(
     ensures stops { IfErr result (λ fault. Stops (N.flash nand.old) fault (N.flash nand.new) (most_finish_cost (N.flash nand.old).blocks) (2 ^ 64)) }
     ensures none_stops { copies_of reclaim ≡ [] → IfErr result (λ fault. Stops (N.flash nand.old) fault (N.flash nand.new) 1 0) }
     ensures placed_stops { has_place_for reclaim mounted.old ≡ true → IfErr result (λ fault. Stops (N.flash nand.old) fault (N.flash nand.new) 4 0) }
+    ensures index { copies_of reclaim ≡ [] → OnOk result (mounted.new.index ≡ mounted.old.index) }
+    ensures unfrozen { has_frozen mounted.old.index ≡ false → OnOk result (EndsInFew (N.flash nand.old) (N.flash nand.new)) }
+    ensures unfrozen_stops { has_frozen mounted.old.index ≡ false → IfErr result (λ fault. Stops (N.flash nand.old) fault (N.flash nand.new) 4 (2 ^ 64)) }
 {
     name_copies(alloc, nand, mounted, &reclaim)?;
     erase_block(nand, mounted, reclaim)?;
@@ -169,6 +161,9 @@ fn name_copies<N: Nand>(
     ensures stops { IfErr result (λ fault. Stops (N.flash nand.old) fault (N.flash nand.new) (most_place_cost (N.flash nand.old).blocks + 264) (2 ^ 64)) }
     ensures none_stops { copies_of reclaim.now ≡ [] → IfErr result (λ fault. Stops (N.flash nand.old) fault (N.flash nand.new) 0 0) }
     ensures placed_stops { has_place_for reclaim.now mounted.old ≡ true → IfErr result (λ fault. Stops (N.flash nand.old) fault (N.flash nand.new) 3 0) }
+    ensures index { copies_of reclaim.now ≡ [] → OnOk result (mounted.new.index ≡ mounted.old.index) }
+    ensures unfrozen { has_frozen mounted.old.index ≡ false → OnOk result (Works (N.flash nand.old) (N.flash nand.new) 3 (2 ^ 64)) }
+    ensures unfrozen_stops { has_frozen mounted.old.index ≡ false → IfErr result (λ fault. Stops (N.flash nand.old) fault (N.flash nand.new) 3 (2 ^ 64)) }
 {
     let moves = ordered_moves(alloc, reclaim, &mounted.values)?;
     log_entries(alloc, nand, &mut mounted.index, &moves)?;
@@ -189,6 +184,7 @@ fn erase_block<N: Nand>(
     ensures machine { OnOk result (machine_at (N.flash nand.new) mounted.new ≡ machine_at (N.flash nand.old) mounted.old) }
     ensures room { OnOk result (free_room mounted.new.values ≢ 0) }
     ensures frees { OnOk result (FreesBlock mounted.old.values mounted.new.values) }
+    ensures index { mounted.new.index ≡ mounted.old.index }
     ensures age { mounted_age mounted.new ≡ mounted_age mounted.old }
     ensures objects { objects_in (N.flash nand.new).image ≡ objects_in (N.flash nand.old).image }
     ensures leaves { Leaves (N.flash nand.old) (mounted_age mounted.old) (N.flash nand.new) }

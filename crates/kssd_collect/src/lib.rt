@@ -9,6 +9,6 @@ mod logging;
 mod marking;
 mod taking;
 
-pub use collection::{collect, copy_block, finish, has_place};
+pub use collection::{collect, copy_block, finish};
 pub use due::collection_due;
 pub use taking::take_up;

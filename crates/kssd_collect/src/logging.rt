@@ -1,16 +1,18 @@
 // Putting the moves of values into the index.
-ghost use Rattle.std.specs.Prelude.{◌≡◌, ◌≤◌, ◌+◌, ◌^◌, true, length, [], IfOk, OnOk, IfErr};
+ghost use Rattle.std.specs.Prelude.{◌≡◌, ◌≤◌, ◌+◌, ◌^◌, true, false, length, [], IfOk, OnOk, IfErr};
 ghost use Rattle.std.specs.List.{AllByRecursion};
 ghost use Rattle.kv_nand.specs.Working.{Works, Stops};
 ghost use Rattle.kssd_layout.specs.Numbers.{max_keys_in, max_pages_in};
 ghost use Rattle.kssd_entry.specs.Spelling.{FitsEntry};
 ghost use Rattle.kssd_model.specs.Rising.{is_rising, merged};
+ghost use Rattle.kssd_log.specs.Ring.{room_of};
+ghost use Rattle.kssd_log.specs.Append.{pages_of};
 ghost use Rattle.kssd_image.specs.Stages.{shown_in};
 ghost use Rattle.kssd_image.specs.Whole.{pages_named, age_in};
 ghost use Rattle.kssd_values.specs.Places.{IsValueBlock};
 ghost use Rattle.kssd_values.specs.Blocks.{device_of};
 ghost use Rattle.kssd_reclaim.specs.Reclaim.{block_of, copies_of, moves_of};
-ghost use Rattle.kssd_index.specs.Standing.{IsIndex, index_age};
+ghost use Rattle.kssd_index.specs.Standing.{IsIndex, has_frozen, index_age, index_ring};
 ghost use Rattle.kssd_root.specs.Mapping.{with_entries, IsKept, IsBeforeOrAfter};
 ghost use Rattle.kssd_index.specs.Costs.{has_place_in, group_cost};
 ghost use Rattle.kssd_root.specs.Costs.{most_place_cost};
@@ -80,6 +82,9 @@ fn find_place<N: Nand>(
     ensures ages { index_age index.new ≤ index_age index.old + 2 ^ 8 }
     ensures works { OnOk result (Works (N.flash nand.old) (N.flash nand.new) (most_place_cost (N.flash nand.old).blocks) (2 ^ 64)) }
     ensures stops { IfErr result (λ fault. Stops (N.flash nand.old) fault (N.flash nand.new) (most_place_cost (N.flash nand.old).blocks) (2 ^ 64)) }
+    ensures fresh { has_place_in index.old entries.now ≡ false → OnOk result (room_of (index_ring index.new) ≡ 248) }
+    ensures unfrozen { has_frozen index.old ≡ false → OnOk result (Works (N.flash nand.old) (N.flash nand.new) 2 (2 ^ 64)) }
+    ensures unfrozen_stops { has_frozen index.old ≡ false → IfErr result (λ fault. Stops (N.flash nand.old) fault (N.flash nand.new) 2 (2 ^ 64)) }
 {
     if index.has_place(entries) {
         return Ok(());
@@ -111,6 +116,8 @@ pub fn log_entries<N: Nand>(
     ensures placed { has_place_in index.old entries.now ≡ true → OnOk result (Works (N.flash nand.old) (N.flash nand.new) (group_cost index.old entries.now) 0) }
     ensures stops { IfErr result (λ fault. Stops (N.flash nand.old) fault (N.flash nand.new) (most_place_cost (N.flash nand.old).blocks + 264) (2 ^ 64)) }
     ensures placed_stops { has_place_in index.old entries.now ≡ true → IfErr result (λ fault. Stops (N.flash nand.old) fault (N.flash nand.new) (group_cost index.old entries.now) 0) }
+    ensures unfrozen { has_frozen index.old ≡ false → pages_of entries.now ≤ 1 → OnOk result (Works (N.flash nand.old) (N.flash nand.new) 3 (2 ^ 64)) }
+    ensures unfrozen_stops { has_frozen index.old ≡ false → pages_of entries.now ≤ 1 → IfErr result (λ fault. Stops (N.flash nand.old) fault (N.flash nand.new) 3 (2 ^ 64)) }
 {
     if entries.len() == 0 {
         return Ok(());

@@ -17,7 +17,7 @@ use crate::adding::add_group;
 use crate::judging::Judged;
 use kssd_entry::Entries;
 use kssd_mounted::{Mounted, mark_entries};
-use kssd_tx::{TxId, TxTable};
+use kssd_tx::{TxFault, TxId, TxTable};
 use kssd_values::{Mark, Values};
 use kv_base::Memory;
 use kv_nand::{FlashFault, Nand};
@@ -62,7 +62,8 @@ fn take_changes(alloc: Global, changes: &mut TxTable, tx: TxId) -> Result<Entrie
 {
     match changes.take(alloc, tx) {
         Ok(entries) => Ok(entries),
-        Err(_) => Err(Memory),
+        Err(TxFault::Memory) => Err(Memory),
+        Err(TxFault::Busy | TxFault::NoTx | TxFault::Full) => unreachable!(),
     }
 }
 

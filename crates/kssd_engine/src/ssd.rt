@@ -8,6 +8,7 @@ ghost use Rattle.kssd_machine.specs.Machines.{resting};
 ghost use Rattle.kssd_mounted.specs.Standing.{Leaves};
 ghost use Rattle.kssd_mount.specs.Mounting.{FailsMounting, IsSpared};
 ghost use Rattle.kssd_engine.specs.Keeping.{IsKept, IsKept-prop, IsDueIn};
+ghost use Rattle.kssd_engine.specs.Plans.{asked_by};
 
 use kssd_levels::JobKind;
 use kssd_mounted::Mounted;
@@ -73,6 +74,7 @@ impl<N: PlannedNand> Ssd<N> {
         ensures whole { IsWhole (N.flash result).blocks (N.flash result).image }
         ensures blocks { (256 ≤ (N.flash result).blocks) × ((N.flash result).blocks ≤ 2048) }
         ensures age { age_in (N.flash result).image ≤ ⟦<Ssd<N> as Device>⟧.age self }
+        ensures asked { asked_by (N.planned result) 0 ≡ record (⟦<Ssd<N> as Device>⟧.asked self) { work = 0 } }
     {
         self.nand
     }

@@ -251,7 +251,7 @@ stands_behind index old new entries after table age has h appends outside behind
       few = omega (arith, ap (λ (es : List Entry). length es) is, n.table);
       older_few = h.stands.older_few;
       numbers = omega (arith, g.grows.age_is, h.stands.numbers, aged);
-      job = over_beside index.job index.root old.blocks old.image new.image (ring_beside old.blocks old.image new.image outside) h.stands.root h.stands.job;
+      job = over_beside index.job index.older index.root old.blocks old.image new.image (ring_beside old.blocks old.image new.image outside) h.stands.root h.stands.job;
     })
 
 pub aged_behind : (index : Index) (blocks : ℕ) (old new : Image) (entries : List Entry) (after : Place) (age : ℕ) → HasBytes old → IsPlaced index blocks old entries

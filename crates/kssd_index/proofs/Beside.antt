@@ -36,7 +36,7 @@ run_is_before blocks block is = elim (cases_lt block (first_value_block_in block
 ]
 
 -- an index stands, with a job that does, wherever the pages of anchors and of the log are as they are, and those of its runs
-pub index_by : (index : Index) (job : Option Job) (blocks : ℕ) (old new : Image) → ((q : ℕ) → q < 640 → new q ≡ old q) → AreSameIn (runs_blocks index.root.anchor.runs) old new → StandsOver job index.root blocks new → IsIndex index blocks old → IsIndex (record index { job = job }) blocks new
+pub index_by : (index : Index) (job : Option Job) (blocks : ℕ) (old new : Image) → ((q : ℕ) → q < 640 → new q ≡ old q) → AreSameIn (runs_blocks index.root.anchor.runs) old new → StandsOver job index.older index.root blocks new → IsIndex index blocks old → IsIndex (record index { job = job }) blocks new
 index_by index job blocks old new low named over h = record {
   root = record {
     device = h.root.device;
@@ -89,7 +89,7 @@ index_by index job blocks old new low named over h = record {
 -- an index stands wherever the pages before the blocks of values are as they are
 pub index_beside : (index : Index) (blocks : ℕ) (old new : Image) → ((q : ℕ) → q / 32 < first_value_block_in blocks → new q ≡ old q) → IsIndex index blocks old → IsIndex index blocks new
 index_beside index blocks old new before h =
-    index_by index index.job blocks old new (λ q lt. before q (omega arith)) (λ q named. behind q (named_is_run blocks (q / 32) index.root.anchor.runs h.root.anchored.index.form.runs named)) (over_beside index.job index.root blocks old new behind h.root h.job) h
+    index_by index index.job blocks old new (λ q lt. before q (omega arith)) (λ q named. behind q (named_is_run blocks (q / 32) index.root.anchor.runs h.root.anchored.index.form.runs named)) (over_beside index.job index.older index.root blocks old new behind h.root h.job) h
   where
     behind : (q : ℕ) → region_in blocks (q / 32) ≡ regions.Run → new q ≡ old q
     behind q run = before q (run_is_before blocks (q / 32) run)

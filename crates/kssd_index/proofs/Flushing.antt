@@ -1,5 +1,5 @@
 -- The older table is written as a run.
-use Rattle.std.proofs.Common.{◌≡◌, ◌∙◌, ℕ, ◌+◌, ◌*◌, ◌<◌, ◌≤◌, ◌^◌, List, [], length, Option, None, Some, sym, ap, subst, arith}
+use Rattle.std.proofs.Common.{false, ◌≡◌, ◌∙◌, ℕ, ◌+◌, ◌*◌, ◌<◌, ◌≤◌, ◌^◌, List, [], length, Option, None, Some, is_some, refl, sym, ap, subst, arith}
 use Rattle.kv_nand.specs.Flash.{Image, Flash, IsSound}
 use Rattle.kv_nand.specs.declared.fault.FlashFault.{FlashFault}
 use Rattle.kv_nand.specs.Working.{Works, Stops}
@@ -76,3 +76,8 @@ pub flush_stops : (o : Option Older) (older : Older) (a b c : Flash) (fault : Fl
 flush_stops o older a b c fault is sound works stops =
     subst (λ (x : Option Older). Stops a fault c (flush_cost x a.blocks) (2 ^ 64)) (sym is)
     (stops_on a b c fault (merge_cost One a.blocks + merge_cost Zero a.blocks) (merge_cost Flush b.blocks) (flush_cost (Some older) a.blocks) (2 ^ 64) (2 ^ 64) sound (omega arith) works stops)
+
+-- without an older table none is written
+pub none_cost : (o : Option Older) (blocks : ℕ) → is_some o ≡ false → flush_cost o blocks ≡ 0
+none_cost None blocks none = refl
+none_cost (Some older) blocks none = absurd cc

@@ -23,7 +23,7 @@ use Rattle.kssd_index.specs.declared.index.Older.{Older}
 use Rattle.kssd_index.specs.declared.index.Index.{Index}
 use Rattle.kssd_index.specs.Standing.{IsIndex}
 use Rattle.kssd_index.proofs.Later.{log_here, within_log, at_log, keys_with, table_rising, anchor_page, levels_outside}
-use Rattle.kssd_index.proofs.UnderWay.{over_beside, ring_beside}
+use Rattle.kssd_index.proofs.UnderWay.{over_beside, over_frozen, ring_beside}
 
 -- ---- before the turn
 
@@ -147,5 +147,5 @@ stands_frozen index older table after age blocks old new t f none aged =
       few = omega (arith, ap (λ (es : List Entry). length es) none);
       older_few = omega (arith, ap (λ (es : List Entry). length es) f.table, h.few);
       numbers = omega (arith, k.age_is, last, h.long.number, h.numbers, aged);
-      job = over_beside index.job index.root blocks old new (ring_beside blocks old new t.outside) h.root h.job;
+      job = over_beside index.job (Some older) index.root blocks old new (ring_beside blocks old new t.outside) h.root (over_frozen index.job older index.root blocks old h.job);
     }

@@ -1,13 +1,14 @@
 -- Doing jobs by single steps.
-use Rattle.std.proofs.Common.{true, false, not, ◌≡◌, ◌⊎◌, ◌∙◌, ℕ, ◌+◌, ◌-◌, ◌/◌, ◌<◌, ◌≤◌, ◌^◌, Bool, cond, List, [], length, Some, None, refl, sym, ap, subst, arith, inl, inr, Option}
-use Rattle.std.specs.Prelude.{nat_eq, nat_lt, nat_le, IsSomeAnd}
+use Rattle.std.proofs.Common.{true, false, not, ◌≡◌, ◌≢◌, ◌⊎◌, ◌∙◌, ℕ, ◌+◌, ◌-◌, ◌/◌, ◌<◌, ◌≤◌, ◌^◌, Bool, cond, List, [], length, Some, None, refl, sym, ap, subst, arith, inl, inr, Option}
+use Rattle.std.specs.Prelude.{nat_eq, nat_lt, nat_le, ◌&&◌, is_some, IsSomeAnd}
 use Rattle.std.specs.Option.{ForSome}
 use Rattle.std.specs.List.{list_any}
-use Rattle.std.proofs.lemmas.Bool.{cases_lt, leb-true}
+use Rattle.std.proofs.lemmas.Bool.{cases_lt, leb-true, ltb-true}
 use Rattle.kv_nand.specs.Flash.{Image, Flash, IsSound}
 use Rattle.kv_nand.specs.declared.fault.FlashFault.{FlashFault}
 use Rattle.kv_nand.specs.Working.{Works, Stops, ops_more}
 use Rattle.kv_nand.proofs.Chaining.{works_then_works, works_then_stops, works_still, works_within, works_no_ops, works_blocks, stops_within, ops_then_ops}
+use Rattle.kssd_entry.specs.declared.entry.Entry.{Entry}
 use Rattle.kssd_layout.specs.declared.region.Region.TheVariants as regions
 use Rattle.kssd_model.specs.declared.anchor.Anchor.{Anchor}
 use Rattle.kssd_model.specs.declared.anchor.Found.{Found}
@@ -15,17 +16,17 @@ use Rattle.kssd_model.specs.Anchors.{newest_in}
 use Rattle.kssd_anchor.proofs.Placing.{last_below}
 use Rattle.kssd_model.specs.declared.runs.RunInfo.{RunInfo}
 use Rattle.kssd_image.specs.AnchorForm.{blocks_of}
-use Rattle.kssd_image.specs.Whole.{log_of, age_by, age_in}
+use Rattle.kssd_image.specs.Whole.{log_of, age_in}
 use Rattle.kssd_frames.proofs.Places.{region_of_anchors, region_of_log}
 use Rattle.kssd_log.specs.Ring.{IsRingPage}
 use Rattle.kssd_merge.specs.Same.{AreSameIn}
 use Rattle.kssd_levels.specs.declared.kind.JobKind.{JobKind}
-use Rattle.kssd_levels.specs.declared.kind.JobKind.TheVariants.{Zero, One}
+use Rattle.kssd_levels.specs.declared.kind.JobKind.TheVariants.{Flush, Zero, One, Collect}
 use Rattle.kssd_levels.specs.declared.levels.Levels.{Levels}
 use Rattle.kssd_levels.specs.Levels.{levels_map, named_blocks, first_entries, due_of}
 use Rattle.kssd_levels.specs.Runs.{has_block}
 use Rattle.kssd_compact.specs.declared.job.Job.{Job}
-use Rattle.kssd_compact.specs.Job.{job_blocks}
+use Rattle.kssd_compact.specs.Job.{job_kind, job_blocks}
 use Rattle.kssd_compact.specs.Finishing.{GoesOn}
 use Rattle.kssd_root.specs.declared.root.Root.{Root}
 use Rattle.kssd_root.specs.Standing.{IsRoot}
@@ -39,7 +40,7 @@ use Rattle.kssd_root.proofs.Splitting.{later_log}
 use Rattle.kssd_root.proofs.UnderWay.{way_named}
 use Rattle.kssd_index.specs.declared.index.Older.{Older}
 use Rattle.kssd_index.specs.declared.index.Index.{Index}
-use Rattle.kssd_index.specs.Standing.{IsIndex, older_entries, later_anchor, later_of}
+use Rattle.kssd_index.specs.Standing.{IsIndex, has_frozen, IsRunning, StandsOver, job_table, older_entries, later_anchor, later_of}
 use Rattle.kssd_index.specs.Working.{due_in, jobs_ahead, WorksOn}
 use Rattle.kssd_index.proofs.Anchored.{aged_still}
 use Rattle.kssd_index.proofs.Later.{at_same, within_same, ring_page, unsplit}
@@ -60,15 +61,73 @@ due_by true true kind levels few due = absurd cc
 due_by true false kind levels few due = record { which = inl (sym (some_is Zero kind due)); few = λ e. leb-true _ _ few }
 due_by false room kind levels few due = record { which = inr (sym (some_is One kind due)); few = λ e. absurd (let f : Zero ≡ One = sym e ∙ sym (some_is One kind due) in cc) }
 
-pub due_merge : (levels : Levels) (kind : JobKind) → due_of levels ≡ Some kind → IsDueMerge kind levels
-due_merge levels kind due = due_by (nat_le (first_entries levels.one) 4096) (nat_lt (length levels.zero) 4) kind levels refl due
+-- one of the levels' own merges, where the due job is no flush
+merge_by : (flush : Bool) (rest : Option JobKind) (kind : JobKind) → cond flush (Some Flush) rest ≡ Some kind → kind ≢ Flush → rest ≡ Some kind
+merge_by true rest kind due other = absurd (other (sym (some_is Flush kind due)))
+merge_by false rest kind due other = due
+
+pub levels_due : (index : Index) (kind : JobKind) → due_in index ≡ Some kind → kind ≢ Flush → due_of index.root.levels ≡ Some kind
+levels_due index kind due other = merge_by (is_some index.older && nat_lt (length index.root.levels.zero) 4) (due_of index.root.levels) kind due other
+
+pub due_merge : (index : Index) (kind : JobKind) → due_in index ≡ Some kind → kind ≢ Flush → IsDueMerge kind index.root.levels
+due_merge index kind due other =
+    let levels = index.root.levels in
+    due_by (nat_le (first_entries levels.one) 4096) (nat_lt (length levels.zero) 4) kind levels refl (levels_due index kind due other)
+
+no_flush : (few room : Bool) → cond few (cond room None (Some Zero)) (Some One) ≡ Some Flush → ⊥
+no_flush true true due = cc
+no_flush true false due = let e = some_is Zero Flush due in cc
+no_flush false room due = let e = some_is One Flush due in cc
+
+flush_by : (frozen room : Bool) (rest : Option JobKind) → (rest ≡ Some Flush → ⊥) → cond (frozen && room) (Some Flush) rest ≡ Some Flush → (frozen ≡ true) × (room ≡ true)
+flush_by true true rest none due = (refl, refl)
+flush_by true false rest none due = absurd (none due)
+flush_by false room rest none due = absurd (none due)
+
+-- a flush is due only where a table is frozen, and level 0 has place for its run
+pub record IsDueFlush (index : Index) : Type 0 where
+  pub frozen : is_some index.older ≡ true
+  pub room : length index.root.levels.zero ≤ 3
+
+pub due_flush : (index : Index) → due_in index ≡ Some Flush → IsDueFlush index
+due_flush index due =
+    let levels = index.root.levels in
+    let both = flush_by (is_some index.older) (nat_lt (length levels.zero) 4) (due_of levels) (no_flush (nat_le (first_entries levels.one) 4096) (nat_lt (length levels.zero) 4)) due in
+    record { frozen = both.0; room = let few = ltb-true (length levels.zero) 4 both.1 in omega (arith, few) }
+
+-- a collection is no job of the index
+no_collection : (flush few room : Bool) → cond flush (Some Flush) (cond few (cond room None (Some Zero)) (Some One)) ≡ Some Collect → ⊥
+no_collection true few room due = let e = some_is Flush Collect due in cc
+no_collection false true true due = cc
+no_collection false true false due = let e = some_is Zero Collect due in cc
+no_collection false false room due = let e = some_is One Collect due in cc
+
+pub never_collected : (index : Index) → due_in index ≡ Some Collect → ⊥
+never_collected index due =
+    let levels = index.root.levels in
+    no_collection (is_some index.older && nat_lt (length levels.zero) 4) (nat_le (first_entries levels.one) 4096) (nat_lt (length levels.zero) 4) due
+
+-- where none is due no table is frozen
+unfrozen_by : (frozen few room : Bool) → cond (frozen && room) (Some Flush) (cond few (cond room None (Some Zero)) (Some One)) ≡ None → frozen ≡ false
+unfrozen_by false few room none = refl
+unfrozen_by true few true none = absurd cc
+unfrozen_by true true false none = absurd cc
+unfrozen_by true false false none = absurd cc
+
+pub none_frozen : (index : Index) → due_in index ≡ None → has_frozen index ≡ false
+none_frozen index none =
+    let levels = index.root.levels in
+    unfrozen_by (is_some index.older) (nat_le (first_entries levels.one) 4096) (nat_lt (length levels.zero) 4) none
+
+abbrev levels_ahead : Levels → ℕ
+levels_ahead levels = cond (nat_lt (length levels.zero) 4) 0 2 + cond (nat_le (first_entries levels.one) 4096) 0 1
 
 at_most : (b : Bool) → cond b 0 1 ≤ 1
 at_most true = omega arith
 at_most false = omega arith
 
 fewer_by : (few room : Bool) (kind : JobKind) (old new : Levels) → nat_le (first_entries old.one) 4096 ≡ few → nat_lt (length old.zero) 4 ≡ room → cond few (cond room None (Some Zero)) (Some One) ≡ Some kind
-    → (kind ≡ Zero → new.zero ≡ []) → (kind ≡ One → (new.zero ≡ old.zero) × (new.one ≡ [])) → jobs_ahead new < cond room 0 2 + cond few 0 1
+    → (kind ≡ Zero → new.zero ≡ []) → (kind ≡ One → (new.zero ≡ old.zero) × (new.one ≡ [])) → levels_ahead new < cond room 0 2 + cond few 0 1
 fewer_by true true kind old new few room due zero one = absurd cc
 fewer_by true false kind old new few room due zero one =
     let none : cond (nat_lt (length new.zero) 4) 0 2 ≡ 0 = ap (λ (rs : List _). let n : ℕ = cond (nat_lt (length rs) 4) 0 2 in n) (zero (sym (some_is Zero kind due))) in
@@ -79,11 +138,32 @@ fewer_by false room kind old new few is_room due zero one =
     let none : cond (nat_le (first_entries new.one) 4096) 0 1 ≡ 0 = ap (λ (rs : List _). let n : ℕ = cond (nat_le (first_entries rs) 4096) 0 1 in n) p.1 in
     omega (arith, same, none)
 
--- the job that was due is done: fewer are ahead
-pub fewer_ahead : (kind : JobKind) (old new : Levels) → due_of old ≡ Some kind → (kind ≡ Zero → new.zero ≡ []) → (kind ≡ One → (new.zero ≡ old.zero) × (new.one ≡ [])) → jobs_ahead new < jobs_ahead old
-fewer_ahead kind old new due zero one = fewer_by (nat_le (first_entries old.one) 4096) (nat_lt (length old.zero) 4) kind old new refl refl due zero one
+-- a merge that was due is done: fewer jobs are ahead
+pub fewer_merges : (kind : JobKind) (old : Index) (root : Root) (age : ℕ) → due_in old ≡ Some kind → kind ≢ Flush → (kind ≡ Zero → root.levels.zero ≡ []) → (kind ≡ One → (root.levels.zero ≡ old.root.levels.zero) × (root.levels.one ≡ [])) → jobs_ahead (record old { root = root; age = age }) < jobs_ahead old
+fewer_merges kind old root age due other zero one =
+    let levels = old.root.levels in
+    let fewer = fewer_by (nat_le (first_entries levels.one) 4096) (nat_lt (length levels.zero) 4) kind levels root.levels refl refl (levels_due old kind due other) zero one in
+    omega (arith, fewer)
+
+at_most_two : (b : Bool) → cond b 0 2 ≤ 2
+at_most_two true = omega arith
+at_most_two false = omega arith
+
+-- a flush is done
+pub fewer_flushes : (old : Index) (root : Root) (age : ℕ) → is_some old.older ≡ true → root.levels.one ≡ old.root.levels.one → jobs_ahead (record old { root = root; age = age; older = None }) < jobs_ahead old
+fewer_flushes old root age frozen one =
+    let three : cond (is_some old.older) 3 0 ≡ 3 = ap (λ (b : Bool). let n : ℕ = cond b 3 0 in n) frozen in
+    let same : cond (nat_le (first_entries root.levels.one) 4096) 0 1 ≡ cond (nat_le (first_entries old.root.levels.one) 4096) 0 1 = ap (λ (rs : List _). let n : ℕ = cond (nat_le (first_entries rs) 4096) 0 1 in n) one in
+    omega (arith, three, same, at_most_two (nat_lt (length root.levels.zero) 4))
 
 -- ---- operations
+
+-- after reading alone an index stands, and a job that is under way
+pub index_reading : (index : Index) (a b : Flash) → b.image ≡ a.image → b.blocks ≡ a.blocks → IsIndex index a.blocks a.image → IsIndex index b.blocks b.image
+index_reading index a b image same h = subst (λ (p : ℕ × Image). IsIndex index p.0 p.1) (λ i. (sym same i, sym image i)) h
+
+pub way_reading : (kind : JobKind) (job : Job) (table : List Entry) (root : Root) (a b : Flash) → b.image ≡ a.image → b.blocks ≡ a.blocks → IsUnderWay kind job table root a.blocks a.image → IsUnderWay kind job table root b.blocks b.image
+way_reading kind job table root a b image same h = subst (λ (p : ℕ × Image). IsUnderWay kind job table root p.0 p.1) (λ i. (sym same i, sym image i)) h
 
 pub on_still : (most : ℕ) (index : Index) (flash : Flash) → IsSound flash → IsIndex index flash.blocks flash.image → WorksOn most most flash index flash
 on_still most index flash sound h = record {
@@ -92,6 +172,15 @@ on_still most index flash sound h = record {
   few = omega arith;
   works = works_within flash flash 0 0 (most - most) (2 ^ 64) (works_still flash) (omega arith) (omega arith);
   exact = omega (arith, sound.ops);
+}
+
+pub on_reading : (most : ℕ) (index : Index) (a b : Flash) → IsSound a → b.image ≡ a.image → Works a b 0 32 → IsIndex index a.blocks a.image → WorksOn most most a index b
+on_reading most index a b was image reads h = record {
+  stands = index_reading index a b image (works_blocks a b 0 32 reads) h;
+  kept = subst (IsKept a.blocks a.image) (sym image) (index_kept_still index a.blocks a.image h);
+  few = omega arith;
+  works = works_within a b 0 32 (most - most) (2 ^ 64) reads (omega arith) (omega arith);
+  exact = let none : 0 ≡ most - most = omega arith in works_no_ops a b 32 was reads ∙ ap (ops_more a) none;
 }
 
 pub on_then_on : (most mid left : ℕ) (now next : Index) (a b c : Flash) → IsSound c → WorksOn most mid a now b → WorksOn mid left b next c → WorksOn most left a next c
@@ -140,8 +229,8 @@ pub record IsBesideJob (index : Index) (blocks : ℕ) (old new : Image) : Type 0
   pub kept : IsKept blocks old new
   pub aged : age_in new ≤ index.age
 
-pub beside_job : (kind : JobKind) (job : Job) (index : Index) (blocks : ℕ) (old new : Image) → IsIndex index blocks old → IsUnderWay kind job [] index.root blocks old → ((page : ℕ) → has_block (job_blocks job) (page / 32) ≡ false → new page ≡ old page) → IsBesideJob index blocks old new
-beside_job kind job index blocks old new h way outside = record {
+pub beside_job : (kind : JobKind) (job : Job) (table : List Entry) (index : Index) (blocks : ℕ) (old new : Image) → IsIndex index blocks old → IsUnderWay kind job table index.root blocks old → ((page : ℕ) → has_block (job_blocks job) (page / 32) ≡ false → new page ≡ old page) → IsBesideJob index blocks old new
+beside_job kind job table index blocks old new h way outside = record {
   keeps = keeps;
   low = λ q lt. elim (cases_lt q 64) [
     | inl anchor ↦ other_stays blocks (named_blocks index.root.levels) old new q regions.Anchor keeps (region_of_anchors blocks (q / 32) (omega arith)) (λ e. cc)
@@ -153,12 +242,12 @@ beside_job kind job index blocks old new h way outside = record {
 }
   where
     keeps : KeepsNamed blocks (named_blocks index.root.levels) old new
-    keeps = way_named kind job [] index.root blocks old new way outside
+    keeps = way_named kind job table index.root blocks old new way outside
 
-pub carried : (kind : JobKind) (job on : Job) (most left : ℕ) (index : Index) (before after : Flash) → IsIndex index before.blocks before.image → IsUnderWay kind job [] index.root before.blocks before.image → GoesOn job before on after
+pub carried : (kind : JobKind) (job on : Job) (table : List Entry) (most left : ℕ) (index : Index) (before after : Flash) → IsIndex index before.blocks before.image → IsUnderWay kind job table index.root before.blocks before.image → GoesOn job before on after
     → left ≤ most → Works before after (most - left) (2 ^ 64) → after.ops ≡ ops_more before (most - left) → WorksOn most left before (record index { job = None }) after
-carried kind job on most left index before after h way goes few works exact =
-    let beside = beside_job kind job index before.blocks before.image after.image h way goes.outside in
+carried kind job on table most left index before after h way goes few works exact =
+    let beside = beside_job kind job table index before.blocks before.image after.image h way goes.outside in
     let same = works_blocks before after (most - left) (2 ^ 64) works in
     record {
       stands = subst (λ (b : ℕ). IsIndex (record index { job = None }) b after.image) (sym same) (index_by index None before.blocks before.image after.image beside.low beside.named tt h);
@@ -207,8 +296,8 @@ page_low page anchor image e =
     last_below image (Some page) (record anchor { number = anchor.number + 1 })
     (subst (λ (o : Option Found). IsSomeAnd o (λ found. (found.page ≡ page) × (found.anchor.number < anchor.number + 1))) (sym e) (refl, omega arith))
 
-pub put_back : (kind : JobKind) (job : Job) (index : Index) (blocks : ℕ) (image : Image) → IsIndex index blocks image → IsUnderWay kind job [] index.root blocks image → IsIndex (record index { job = Some job }) blocks image
-put_back kind job index blocks image h way = record {
+pub put_back : (kind : JobKind) (job : Job) (index : Index) (blocks : ℕ) (image : Image) → due_in index ≡ Some kind → IsIndex index blocks image → IsUnderWay kind job (job_table kind index.older) index.root blocks image → IsIndex (record index { job = Some job }) blocks image
+put_back kind job index blocks image due h way = record {
   root = h.root;
   split = h.split;
   log = h.log;
@@ -218,23 +307,28 @@ put_back kind job index blocks image h way = record {
   few = h.few;
   older_few = h.older_few;
   numbers = h.numbers;
-  job = subst (λ (k : JobKind). IsUnderWay k job [] index.root blocks image) (sym way.over.kind_is) way;
+  job = record {
+    way = subst (λ (k : JobKind). IsUnderWay k job (job_table k index.older) index.root blocks image) (sym way.over.kind_is) way;
+    frozen = λ flush. (due_flush index (due ∙ ap Some (sym way.over.kind_is ∙ flush))).frozen;
+  };
 }
 
-pub done_on : (most cost : ℕ) (index : Index) (root : Root) (a b c : Flash) → IsSound a → IsSound c → index.job ≡ None → IsIndex index a.blocks a.image → b.image ≡ a.image → Works a b 0 32 → cost ≤ most
-    → IsRoot root c.blocks c.image → SameLog index.root.anchor b.image root.anchor c.image → ShowAlike (levels_map index.root.levels b.image) (levels_map root.levels c.image) → age_in c.image ≤ age_by b.image index.root.anchor + 1 → IsKept b.blocks b.image c.image → Works b c 2 32 → c.ops ≡ ops_more b cost
-    → WorksOn most (most - cost) a (record index { root = root; age = index.age + 1 }) c
-done_on most cost index root a b c was sound none h image reads few is log alike aged kept works ops =
-    let same_b = works_blocks a b 0 32 reads in
-    let same : c.blocks ≡ a.blocks = works_blocks b c 2 32 works ∙ same_b in
-    let now : IsIndex index a.blocks b.image = subst (λ (im : Image). IsIndex index a.blocks im) (sym image) h in
-    let named = named_on index root (index.age + 1) a.blocks b.image c.image now (subst (λ (n : ℕ). IsRoot root n c.image) same is) log alike (omega (arith, aged, now.numbers)) in
+-- what was under way, where it is of the kind that is due
+pub taken_up : (kind : JobKind) (job : Job) (index : Index) (blocks : ℕ) (image : Image) → index.job ≡ Some job → job_kind job ≡ kind → IsIndex index blocks image → IsUnderWay kind job (job_table kind index.older) index.root blocks image
+taken_up kind job index blocks image is same h =
+    let over : IsRunning job index.older index.root blocks image = subst (λ (o : Option Job). StandsOver o index.older index.root blocks image) is h.job in
+    subst (λ (k : JobKind). IsUnderWay k job (job_table k index.older) index.root blocks image) same over.way
+
+-- an anchor was written after its cost was asked
+pub done_on : (most cost : ℕ) (index next : Index) (a b c : Flash) → IsSound a → IsSound c → IsIndex index a.blocks a.image → b.image ≡ a.image → Works a b 0 32 → cost ≤ most
+    → IsIndex next c.blocks c.image → IsKept b.blocks b.image c.image → Works b c 2 32 → c.ops ≡ ops_more b cost → WorksOn most (most - cost) a next c
+done_on most cost index next a b c was sound h image reads few stands kept works ops =
     let both = works_then_works a b c 0 32 2 32 reads works in
     let all : 0 + cost ≡ most - (most - cost) = omega (arith, few) in
     let exact : c.ops ≡ ops_more a (most - (most - cost)) = ops_then_ops a b c 0 cost (works_no_ops a b 32 was reads) ops ∙ ap (ops_more a) all in
     record {
-      stands = subst (λ (o : Option Job). IsIndex (record index { root = root; age = index.age + 1; job = o }) c.blocks c.image) (sym none) (subst (λ (n : ℕ). IsIndex (record index { root = root; age = index.age + 1; job = None }) n c.image) (sym same) named);
-      kept = kept_on a.blocks b.blocks a.image b.image c.image same_b (subst (IsKept a.blocks a.image) (sym image) (index_kept_still index a.blocks a.image h)) kept;
+      stands = stands;
+      kept = kept_on a.blocks b.blocks a.image b.image c.image (works_blocks a b 0 32 reads) (subst (IsKept a.blocks a.image) (sym image) (index_kept_still index a.blocks a.image h)) kept;
       few = omega arith;
       works = record {
         after = both.after;
@@ -248,9 +342,9 @@ done_on most cost index root a b c was sound none h image reads few is log alike
       exact = exact;
     }
 
-pub done_stops : (most : ℕ) (a b c : Flash) (fault : FlashFault) → IsSound c → Works a b 0 32 → 2 ≤ most → Stops b fault c 2 32 → Stops a fault c most (2 ^ 64)
-done_stops most a b c fault sound reads few stops =
-    stops_within a c fault (0 + 2) (32 + 32) most (2 ^ 64) (works_then_stops a b c fault 0 32 2 32 reads stops) few (omega arith)
+pub done_stops : (most cost : ℕ) (a b c : Flash) (fault : FlashFault) → Works a b 0 32 → cost ≤ most → Stops b fault c cost 32 → Stops a fault c most (2 ^ 64)
+done_stops most cost a b c fault reads few stops =
+    stops_within a c fault (0 + cost) (32 + 32) most (2 ^ 64) (works_then_stops a b c fault 0 32 cost 32 reads stops) (omega (arith, few)) (omega arith)
 
 pub kept_reading : (index : Index) (a b : Flash) (new : Image) → b.image ≡ a.image → b.blocks ≡ a.blocks → IsIndex index a.blocks a.image → IsKept b.blocks b.image new → IsKept a.blocks a.image new
 kept_reading index a b new image same h kept = kept_on a.blocks b.blocks a.image b.image new same (subst (IsKept a.blocks a.image) (sym image) (index_kept_still index a.blocks a.image h)) kept
@@ -258,21 +352,21 @@ kept_reading index a b new image same h kept = kept_on a.blocks b.blocks a.image
 pub aged_reading : (index : Index) (blocks : ℕ) (old new : Image) → new ≡ old → IsIndex index blocks old → age_in new ≤ index.age
 aged_reading index blocks old new image h = subst (λ (im : Image). age_in im ≤ index.age) (sym image) (aged_still index blocks old h)
 
-pub back_on : (kind : JobKind) (job : Job) (most left : ℕ) (index : Index) (before after : Flash) → WorksOn most left before index after → IsUnderWay kind job [] index.root after.blocks after.image → WorksOn most left before (record index { job = Some job }) after
-back_on kind job most left index before after on way = record {
-  stands = put_back kind job index after.blocks after.image on.stands way;
+pub back_on : (kind : JobKind) (job : Job) (most left : ℕ) (index : Index) (before after : Flash) → due_in index ≡ Some kind → WorksOn most left before index after → IsUnderWay kind job (job_table kind index.older) index.root after.blocks after.image → WorksOn most left before (record index { job = Some job }) after
+back_on kind job most left index before after due on way = record {
+  stands = put_back kind job index after.blocks after.image due on.stands way;
   kept = on.kept;
   few = on.few;
   works = on.works;
   exact = on.exact;
 }
 
-at_most_two : (b : Bool) → cond b 0 2 ≤ 2
-at_most_two true = omega arith
-at_most_two false = omega arith
+at_most_three : (b : Bool) → cond b 3 0 ≤ 3
+at_most_three true = omega arith
+at_most_three false = omega arith
 
-pub jobs_few : (levels : Levels) → jobs_ahead levels ≤ 3
-jobs_few levels = omega (arith, at_most_two (nat_lt (length levels.zero) 4), at_most (nat_le (first_entries levels.one) 4096))
+pub jobs_few : (index : Index) → jobs_ahead index ≤ 6
+jobs_few index = omega (arith, at_most_three (is_some index.older), at_most_two (nat_lt (length index.root.levels.zero) 4), at_most (nat_le (first_entries index.root.levels.one) 4096))
 
 pub was_named : (named : Bool) → not named ≡ false → named ≡ true
 was_named true e = refl

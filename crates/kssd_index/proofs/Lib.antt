@@ -10,3 +10,4 @@ pub mod Later
 pub mod Flushing
 pub mod Freezing
 pub mod JobSteps
+pub mod NamedJobs

@@ -1,5 +1,5 @@
 -- What an index and the parts of one say of an image.
-use Rattle.std.specs.Prelude.{◌≡◌, ◌≤◌, ◌+◌, ◌/◌, ℕ, Bool, true, List, [], length, Option, None, Some}
+use Rattle.std.specs.Prelude.{◌≡◌, ◌≤◌, ◌+◌, ◌/◌, ℕ, Bool, true, List, [], length, Option, None, Some, is_some}
 use Rattle.kv_nand.specs.Flash.{Image, Erased}
 use Rattle.kssd_entry.specs.declared.entry.Entry.{Entry}
 use Rattle.kssd_model.specs.declared.anchor.Anchor.{Anchor}
@@ -8,6 +8,8 @@ use Rattle.kssd_model.specs.Groups.{rest_from, turn_count}
 use Rattle.kssd_log.specs.declared.place.Place.{Place}
 use Rattle.kssd_image.specs.Damages.{IsAnchorFit}
 use Rattle.kssd_image.specs.Whole.{log_of, age_by}
+use Rattle.kssd_levels.specs.declared.kind.JobKind.{JobKind}
+use Rattle.kssd_levels.specs.declared.kind.JobKind.TheVariants.{Flush, Zero, One, Collect}
 use Rattle.kssd_compact.specs.declared.job.Job.{Job}
 use Rattle.kssd_compact.specs.Job.{job_kind}
 use Rattle.kssd_root.specs.declared.root.Root.{Root}
@@ -30,6 +32,10 @@ abbrev pub later_anchor : Anchor → Option Older → Anchor
 later_anchor anchor None = anchor
 later_anchor anchor (Some older) = with_log anchor older.log_block older.log_seq
 
+-- whether there is an older table
+abbrev pub has_frozen : Index → Bool
+has_frozen index = is_some index.older
+
 abbrev pub later_of : Index → Anchor
 later_of index = later_anchor index.root.anchor index.older
 
@@ -42,10 +48,21 @@ pub record EndsWithin (place : Place) (anchor : Anchor) (image : Image) : Type 0
 
 -- ---- the job under way
 
--- a job that is under way stands over the levels of this root
-abbrev pub StandsOver : Option Job → Root → ℕ → Image → Type 0
-StandsOver None root blocks image = Unit {0}
-StandsOver (Some job) root blocks image = IsUnderWay (job_kind job) job [] root blocks image
+-- the entries that a job of this kind writes beside what it merges: those of the older table at a flush
+abbrev pub job_table : JobKind → Option Older → List Entry
+job_table Flush older = older_entries older
+job_table Zero older = []
+job_table One older = []
+job_table Collect older = []
+
+-- a job that is under way stands over the levels of this root, and a flush over the older table, which is there
+pub record IsRunning (job : Job) (older : Option Older) (root : Root) (blocks : ℕ) (image : Image) : Type 0 where
+  pub way : IsUnderWay (job_kind job) job (job_table (job_kind job) older) root blocks image
+  pub frozen : job_kind job ≡ Flush → is_some older ≡ true
+
+abbrev pub StandsOver : Option Job → Option Older → Root → ℕ → Image → Type 0
+StandsOver None older root blocks image = Unit {0}
+StandsOver (Some job) older root blocks image = IsRunning job older root blocks image
 
 -- ---- the standing fact
 
@@ -60,7 +77,7 @@ pub record IsIndex (index : Index) (blocks : ℕ) (image : Image) : Type 0 where
   pub few : length index.table ≤ 1024
   pub older_few : length (older_entries index.older) ≤ 1024
   pub numbers : age_by image index.root.anchor ≤ index.age
-  pub job : StandsOver index.job index.root blocks image
+  pub job : StandsOver index.job index.older index.root blocks image
 
 -- at least the greatest number of eight bytes in the newest anchor and in the pages of its log
 abbrev pub index_age : Index → ℕ

@@ -38,11 +38,11 @@ fn read_sizes(entries: &Entries)
 }
 
 impl Index {
-    ghost use Rattle.std.specs.Prelude.{◌≡◌, ◌≤◌, ◌<◌, ◌+◌, ◌^◌, ℕ, [], true, None, length, IfOk, OnOk, OnErr, IfErr};
+    ghost use Rattle.std.specs.Prelude.{◌≡◌, ◌≤◌, ◌<◌, ◌+◌, ◌^◌, ℕ, [], true, false, None, length, IfOk, OnOk, OnErr, IfErr};
     ghost use Rattle.kv_nand.specs.Flash.{Image};
     ghost use Rattle.kv_nand.specs.Working.{Works, Stops};
     ghost use Rattle.kssd_image.specs.Whole.{age_in};
-    ghost use Rattle.kssd_index.specs.Standing.{IsIndex, AreParts, IsFit, is_clean, index_age};
+    ghost use Rattle.kssd_index.specs.Standing.{IsIndex, AreParts, IsFit, is_clean, has_frozen, index_age, index_ring};
     ghost use Rattle.kssd_root.specs.Mapping.{IsKept};
     ghost use Rattle.kssd_root.specs.Costs.{most_place_cost};
     ghost use Rattle.kssd_log.specs.Ring.{room_of};
@@ -161,8 +161,8 @@ impl Index {
     }
 
     /// Makes place for a group of these entries: the table is frozen, the log turns, and a new table
-    /// begins. Where a frozen table is there already, it is written as a run before. The visible
-    /// entries stay, also after a fault.
+    /// begins, in two operations. Where a frozen table is there already, it is written as a run before.
+    /// The visible entries stay, also after a fault.
     pub fn make_place<N: Nand>(
         &mut self,
         alloc: Global,
@@ -180,6 +180,9 @@ impl Index {
         ensures few { (N.flash nand.new).ops ≤ (N.flash nand.old).ops + place_cost self.old (N.flash nand.old).blocks }
         ensures works { OnOk result (Works (N.flash nand.old) (N.flash nand.new) (most_place_cost (N.flash nand.old).blocks) (2 ^ 64)) }
         ensures stops { IfErr result (λ fault. Stops (N.flash nand.old) fault (N.flash nand.new) (most_place_cost (N.flash nand.old).blocks) (2 ^ 64)) }
+        ensures fresh { OnOk result (room_of (index_ring self.new) ≡ 248) }
+        ensures unfrozen { has_frozen self.old ≡ false → OnOk result (Works (N.flash nand.old) (N.flash nand.new) 2 (2 ^ 64)) }
+        ensures unfrozen_stops { has_frozen self.old ≡ false → IfErr result (λ fault. Stops (N.flash nand.old) fault (N.flash nand.new) 2 (2 ^ 64)) }
     {
         read_sizes(entries);
         self.flush_older(alloc, nand)?;

@@ -19,12 +19,13 @@ use Rattle.kssd_log.specs.declared.place.Place.{Place}
 use Rattle.kssd_compact.specs.declared.job.Job.{Job}
 use Rattle.kssd_compact.specs.Job.{IsJobOver}
 use Rattle.kssd_levels.specs.declared.kind.JobKind.{JobKind}
+use Rattle.kssd_index.specs.declared.index.Older.{Older}
 use Rattle.kssd_index.specs.declared.index.Index.{Index}
 use Rattle.kssd_root.specs.declared.root.Root.{Root}
 use Rattle.kssd_root.specs.Standing.{IsAnchored, AreRuns, IsRoot, EndsAt}
 use Rattle.kssd_root.specs.Following.{IsSplit}
 use Rattle.kssd_root.specs.UnderWay.{IsUnderWay as IsJobUnderWay}
-use Rattle.kssd_index.specs.Standing.{EndsWithin, StandsOver, IsIndex}
+use Rattle.kssd_index.specs.Standing.{EndsWithin, IsRunning, StandsOver, IsIndex}
 use Rattle.kssd_values.specs.declared.filling.Filling.{Filling}
 use Rattle.kssd_values.specs.declared.values.Values.{Values}
 use Rattle.kssd_values.specs.Pages.{FillsBlock, FillsIn, Fills}
@@ -86,9 +87,12 @@ IsJobOver-prop kind levels job = Prim.hlevel props
 IsJobUnderWay-prop : (kind : JobKind) (job : Job) (table : List Entry) (root : Root) (blocks : ℕ) (image : Image) → IsProp (IsJobUnderWay kind job table root blocks image)
 IsJobUnderWay-prop kind job table root blocks image = Prim.hlevel (props, IsJobOver-prop)
 
-StandsOver-prop : (job : Option Job) (root : Root) (blocks : ℕ) (image : Image) → IsProp (StandsOver job root blocks image)
-StandsOver-prop None root blocks image = Unit-prop
-StandsOver-prop (Some job) root blocks image = IsJobUnderWay-prop _ job [] root blocks image
+IsRunning-prop : (job : Job) (older : Option Older) (root : Root) (blocks : ℕ) (image : Image) → IsProp (IsRunning job older root blocks image)
+IsRunning-prop job older root blocks image = Prim.hlevel (props, IsJobUnderWay-prop)
+
+StandsOver-prop : (job : Option Job) (older : Option Older) (root : Root) (blocks : ℕ) (image : Image) → IsProp (StandsOver job older root blocks image)
+StandsOver-prop None older root blocks image = Unit-prop
+StandsOver-prop (Some job) older root blocks image = IsRunning-prop job older root blocks image
 
 pub IsIndex-prop : (index : Index) (blocks : ℕ) (image : Image) → IsProp (IsIndex index blocks image)
 IsIndex-prop index blocks image = Prim.hlevel (props, IsRoot-prop, IsSplit-prop, EndsAt-prop, EndsWithin-prop, StandsOver-prop)

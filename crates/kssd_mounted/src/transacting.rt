@@ -10,7 +10,7 @@ use crate::Mounted;
 use crate::fault::tx_fault;
 use crate::marking::{mark_entries, page_of};
 use kssd_entry::{Entry, InlineValue};
-use kssd_tx::TxId;
+use kssd_tx::{TxFault, TxId};
 use kssd_values::Mark;
 use kv_base::{Key, Memory, Value};
 use kv_device::DeviceFault;
@@ -126,7 +126,8 @@ impl Mounted {
                 }
                 Ok(())
             }
-            Err(_) => Err(Memory),
+            Err(TxFault::Memory) => Err(Memory),
+            Err(TxFault::Busy | TxFault::NoTx | TxFault::Full) => unreachable!(),
         }
     }
 }

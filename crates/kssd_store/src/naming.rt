@@ -15,7 +15,7 @@ ghost use Rattle.kssd_store.specs.Setting.{marks_after};
 
 use kssd_entry::{Entry, PageLength};
 use kssd_mounted::Mounted;
-use kssd_tx::TxId;
+use kssd_tx::{TxFault, TxId};
 use kssd_values::{Mark, Values};
 use kv_base::{Key, Memory};
 use std::alloc::Global;
@@ -49,7 +49,8 @@ pub fn name_page(
             mark_pages(&mut mounted.values, page, older);
             Ok(())
         }
-        Err(_) => Err(Memory),
+        Err(TxFault::Memory) => Err(Memory),
+        Err(TxFault::Busy | TxFault::NoTx | TxFault::Full) => unreachable!(),
     }
 }
 

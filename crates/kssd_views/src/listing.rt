@@ -22,7 +22,7 @@ use kssd_entry::{Entries, Entry};
 use kssd_index::Index;
 use kssd_levels::Stream;
 use kssd_merge::{Listed, merge_next};
-use kssd_tx::{MAX_TX_CHANGES, TxId, TxTable};
+use kssd_tx::{MAX_TX_CHANGES, TxFault, TxId, TxTable};
 use kssd_values::Values;
 use kv_base::{Key, Memory, Pair, Pairs};
 use kv_nand::{FlashFault, Nand};
@@ -67,7 +67,8 @@ fn own_from(alloc: Global, changes: &TxTable, tx: TxId, from: &Key) -> Result<En
 {
     match changes.from(alloc, tx, from, MAX_TX_CHANGES as u32) {
         Ok(own) => Ok(own),
-        Err(_) => Err(Memory),
+        Err(TxFault::Memory) => Err(Memory),
+        Err(TxFault::Busy | TxFault::NoTx | TxFault::Full) => unreachable!(),
     }
 }
 

@@ -1,41 +1,34 @@
 -- What is due between calls, and when work is done.
-use Rattle.std.specs.Prelude.{◌≡◌, ◌⊎◌, ◌≤◌, ◌+◌, ℕ, false, Option, Some, None}
+use Rattle.std.specs.Prelude.{◌≡◌, ◌⊎◌, ◌≤◌, ◌+◌, ◌-◌, ℕ, false, Option, Some, None}
 use Rattle.kv_nand.specs.Flash.{Flash}
 use Rattle.kv_nand.specs.Working.{ops_more}
 use Rattle.kssd_values.specs.declared.values.Values.{Values}
 use Rattle.kssd_values.specs.Blocks.{has_target, free_count}
 use Rattle.kssd_levels.specs.declared.kind.JobKind.{JobKind}
 use Rattle.kssd_levels.specs.declared.kind.JobKind.TheVariants.{Flush, Zero, One, Collect}
-use Rattle.kssd_reclaim.specs.declared.reclaim.Reclaim.{Reclaim}
-use Rattle.kssd_reclaim.specs.Reclaim.{AllCopied}
+use Rattle.kssd_index.specs.Working.{due_in}
 use Rattle.kssd_mounted.specs.declared.mounted.Mounted.{Mounted}
-use Rattle.kssd_collect.specs.Costs.{most_finish_cost}
-use Rattle.kssd_collect.specs.Collecting.{has_place_for}
 use Rattle.kssd_collect.specs.Due.{MayBegin, IsCollectionDue}
 
--- the job that is due is a collection, or none is
+-- the job that is due: that of the index, where it has one; else a collection, or none
 abbrev pub IsDue : Mounted → Option JobKind → Type 0
-IsDue m None = IsCollectionDue m → ⊥
-IsDue m (Some Collect) = IsCollectionDue m
-IsDue m (Some Flush) = ⊥
-IsDue m (Some Zero) = ⊥
-IsDue m (Some One) = ⊥
+IsDue m None = (due_in m.index ≡ None) × (IsCollectionDue m → ⊥)
+IsDue m (Some Flush) = due_in m.index ≡ Some Flush
+IsDue m (Some Zero) = due_in m.index ≡ Some Zero
+IsDue m (Some One) = due_in m.index ≡ Some One
+IsDue m (Some Collect) = (due_in m.index ≡ None) × IsCollectionDue m
 
 -- all of so many operations were done, but for a few at most
 abbrev pub HasDone : Flash → ℕ → ℕ → Flash → Type 0
 HasDone old operations few new = (done : ℕ) × (new.ops ≡ ops_more old done) × (operations ≤ done + few)
 
--- the collection under way has copied all, and the group that names the copies has no place in the log
-pub record WaitsForPlace (m : Mounted) (r : Reclaim) : Type 0 where
-  pub way : m.collection ≡ Some r
-  pub all : AllCopied r m.values
-  pub none : has_place_for r m ≡ false
-
--- nothing is due any more; or all operations were done but for 4 at most; or a collection needs place in the log, which takes more operations than are left
+-- nothing is due any more; or all operations were done but for 4 at most
 abbrev pub IsWorked : Flash → ℕ → Mounted → Flash → Type 0
-IsWorked old operations m new =
-    IsDue m None
-    ⊎ (HasDone old operations 4 new ⊎ ((r : Reclaim) × WaitsForPlace m r × HasDone old operations (most_finish_cost old.blocks) new))
+IsWorked old operations m new = IsDue m None ⊎ HasDone old operations 4 new
+
+-- of so many operations these are left, and the others were done, all of them; or but for 3 at most, and no collection is due any more
+abbrev pub IsCounted : Flash → ℕ → ℕ → Mounted → Flash → Type 0
+IsCounted old operations left m new = (new.ops ≡ ops_more old (operations - left)) ⊎ ((IsCollectionDue m → ⊥) × HasDone old (operations - left) 3 new)
 
 -- nothing has changed
 pub record IsAsBefore (m : Mounted) (old : Flash) (n : Mounted) (new : Flash) : Type 0 where
@@ -47,7 +40,7 @@ pub record IsFreed (v : Values) (n : Mounted) : Type 0 where
   pub over : n.collection ≡ None
   pub free : MayBegin n.values → (has_target v ≡ false) × (free_count n.values ≡ free_count v + 1)
 
--- a collection has ended without a copy: none is under way, and where none was before, one might begin, and one more block is free
+-- a collection has ended: none is under way, and where none was before, one might begin, and one more block is free
 pub record HasEnded (old new : Mounted) : Type 0 where
   pub over : new.collection ≡ None
   pub began : old.collection ≡ None → MayBegin old.values

@@ -5,13 +5,18 @@ use kssd_collect::collection_due;
 use kssd_levels::JobKind;
 use kssd_mounted::Mounted;
 
-/// The job that is due between calls.
+/// The job that is due between calls: the flush of a frozen table or a merge, and else a collection.
 pub fn due(mounted: &Mounted) -> Option<JobKind>
     ensures { IsDue mounted.now result }
 {
-    if collection_due(mounted) {
-        Some(JobKind::Collect)
-    } else {
-        None
+    match mounted.index.due() {
+        Some(kind) => Some(kind),
+        None => {
+            if collection_due(mounted) {
+                Some(JobKind::Collect)
+            } else {
+                None
+            }
+        }
     }
 }

@@ -4,6 +4,7 @@
 mod choosing;
 mod collecting;
 mod working;
+mod writing;
 
 pub use choosing::due;
 pub use working::work;

@@ -4,7 +4,7 @@ use Rattle.kv_nand.proofs.Chaining.{works_blocks, stops_blocks, works_within, st
 use Rattle.kssd_index.proofs.Anchored.{aged_still}
 use Rattle.kssd_index.specs.Costs.{has_place_in}
 use Rattle.kssd_machine.specs.Names.{are_valued}
-use Rattle.kssd_collect.proofs.Named.{AreOrdered, few, rising, group_short, keys_low, pages_low, objects_logged, leaves_logged, machine_logged, copies_stand, stand_still, copies_dead, visible_marked, copies_hold, pending_valued, emptied}
+use Rattle.kssd_collect.proofs.Named.{AreOrdered, few, rising, group_short, group_paged, keys_low, pages_low, objects_logged, leaves_logged, machine_logged, copies_stand, stand_still, copies_dead, visible_marked, copies_hold, pending_valued, emptied}
 use Rattle.kssd_collect.proofs.collection.name_copies.Goals as goal
 
 pub returns-in_err-moves-clause-leaves : goal.returns-in_err-moves-clause-leaves
@@ -119,3 +119,16 @@ returns-clause-placed g c place =
 
 pub move_visible-requires : goal.move_visible-requires
 move_visible-requires g c = record { copies = copies_stand c.args.reclaim.now c.args.mounted.now (g.N.Nand.flash c.args.nand.now) c.requires.copied }
+
+pub returns-in_err-log_entries-clause-unfrozen_stops : goal.returns-in_err-log_entries-clause-unfrozen_stops
+returns-in_err-log_entries-clause-unfrozen_stops g c none =
+    let old = g.N.Nand.flash c.args.nand.now in
+    let pages = group_paged c.args.reclaim.now c.args.mounted.now old c.in_ok-moves.moves (record { copied = c.requires.copied; is = c.in_ok-moves.ensures.value; fits = c.in_ok-moves.ensures.fits; sound = g.met.N.Nand.sound c.args.nand.now }) in
+    let p = err_from_is_err_and c.from_residual-in_err-log_entries.result c.from_residual-in_err-log_entries.ensures.1 in
+    rw (p.1, p.2) (c.in_err-log_entries.ensures.unfrozen_stops none pages)
+
+pub returns-clause-unfrozen : goal.returns-clause-unfrozen
+returns-clause-unfrozen g c none =
+    let old = g.N.Nand.flash c.args.nand.now in
+    let pages = group_paged c.args.reclaim.now c.args.mounted.now old c.in_ok-moves.moves (record { copied = c.requires.copied; is = c.in_ok-moves.ensures.value; fits = c.in_ok-moves.ensures.fits; sound = g.met.N.Nand.sound c.args.nand.now }) in
+    c.in_ok-log_entries.ensures.unfrozen none pages

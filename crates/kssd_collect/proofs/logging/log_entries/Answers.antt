@@ -1,10 +1,10 @@
-use Rattle.std.proofs.Common.{◌∙◌, sym, arith}
+use Rattle.std.proofs.Common.{◌∙◌, ◌^◌, sym, arith}
 use Rattle.std.proofs.lemmas.Result.{err_from_is_err_and}
 use Rattle.kv_nand.proofs.Chaining.{works_then_stops, stops_within}
 use Rattle.kssd_index.proofs.Anchored.{aged_still}
 use Rattle.kssd_index.proofs.Beside.{index_before_still}
 use Rattle.kssd_index.specs.Costs.{group_cost}
-use Rattle.kssd_collect.proofs.Logged.{none_logged, few_for_group, kept_then_either}
+use Rattle.kssd_collect.proofs.Logged.{HasPlace, none_logged, few_for_group, kept_then_either, page_works, page_stops}
 use Rattle.kssd_collect.proofs.logging.log_entries.Goals as goal
 
 pub returns-then-len-eq0-clause-shown : goal.returns-then-len-eq0-clause-shown
@@ -35,3 +35,24 @@ pub returns-clause-kept : goal.returns-clause-kept
 returns-clause-kept g c =
     let flash = g.N.Nand.flash in
     kept_then_either (flash c.args.nand.now) (flash c.find_place.new.nand) (flash c.append.new.nand) _ _ c.args.entries.now c.in_ok-find_place.ensures.works c.in_ok-find_place.ensures.kept c.in_ok-append.ensures.kept
+
+pub returns-in_err-find_place-clause-unfrozen_stops : goal.returns-in_err-find_place-clause-unfrozen_stops
+returns-in_err-find_place-clause-unfrozen_stops g c none pages =
+    let flash = g.N.Nand.flash in
+    let p = err_from_is_err_and c.from_residual.result c.from_residual.ensures.1 in
+    rw (p.1, p.2) (stops_within (flash c.args.nand.now) (flash c.find_place.new.nand) _ 2 (2 ^ 64) 3 (2 ^ 64) (c.in_err-find_place.ensures.unfrozen_stops none) (omega arith) (omega arith))
+
+pub returns-in_err-append-clause-unfrozen_stops : goal.returns-in_err-append-clause-unfrozen_stops
+returns-in_err-append-clause-unfrozen_stops g c none pages =
+    let flash = g.N.Nand.flash in
+    let found = c.in_ok-find_place.ensures in
+    let has : HasPlace c.args.index.now c.find_place.new.index (flash c.args.nand.now) (flash c.find_place.new.nand) c.args.entries.now = record { still = λ place. (c.find_place.ensures.still place).0; fresh = found.fresh; stands = found.stands; works = found.unfrozen none } in
+    let p = err_from_is_err_and c.from_residual-in_err-append.result c.from_residual-in_err-append.ensures.1 in
+    rw (p.1, p.2) (page_stops c.args.index.now c.find_place.new.index (flash c.args.nand.now) (flash c.find_place.new.nand) (flash c.append.new.nand) _ c.args.entries.now (g.met.N.Nand.sound c.append.new.nand) has pages c.in_err-append.ensures.stops)
+
+pub returns-clause-unfrozen : goal.returns-clause-unfrozen
+returns-clause-unfrozen g c none pages =
+    let flash = g.N.Nand.flash in
+    let found = c.in_ok-find_place.ensures in
+    let has : HasPlace c.args.index.now c.find_place.new.index (flash c.args.nand.now) (flash c.find_place.new.nand) c.args.entries.now = record { still = λ place. (c.find_place.ensures.still place).0; fresh = found.fresh; stands = found.stands; works = found.unfrozen none } in
+    page_works c.args.index.now c.find_place.new.index (flash c.args.nand.now) (flash c.find_place.new.nand) (flash c.append.new.nand) c.args.entries.now (g.met.N.Nand.sound c.append.new.nand) has pages c.in_ok-append.ensures.works

@@ -1,9 +1,9 @@
-use Rattle.std.proofs.Common.{ℕ, Option, refl, ap, subst, inl, inr, arith}
+use Rattle.std.proofs.Common.{◌∙◌, ℕ, Option, refl, ap, subst, inl, inr, arith}
 use Rattle.std.specs.Prelude.{IfSome}
 use Rattle.kv_nand.proofs.Chaining.{works_blocks}
 use Rattle.kssd_index.specs.Standing.{index_age}
 use Rattle.kssd_reclaim.specs.Reclaim.{AllCopied}
-use Rattle.kssd_work.proofs.Rounds.{none_done, leaves_still, leaves_since, IsBegun, begun, few_since, works_since, stops_since, exact_since, all_since, as_many}
+use Rattle.kssd_work.proofs.Rounds.{none_done, leaves_still, leaves_since, IsBegun, begun, few_since, works_since, stops_since, counted_more, all_since, as_many, rested_unfrozen}
 use Rattle.kssd_work.proofs.collecting.collect_block.Goals as goal
 
 pub returns-then-operations-eq0-clause-leaves : goal.returns-then-operations-eq0-clause-leaves
@@ -14,12 +14,15 @@ returns-then-operations-eq0-clause-leaves g c =
 pub returns-then-operations-eq0-clause-ended : goal.returns-then-operations-eq0-clause-ended
 returns-then-operations-eq0-clause-ended g c =
     let none = c.if-operations-eq0.true in
-    inr (inl (none_done (g.N.Nand.flash c.args.nand.now) c.args.operations 4 (g.met.N.Nand.sound c.args.nand.now) (omega (arith, none))))
+    inr (none_done (g.N.Nand.flash c.args.nand.now) c.args.operations 4 (g.met.N.Nand.sound c.args.nand.now) (omega (arith, none)))
 
 pub returns-then-not-collection_due-clause-leaves : goal.returns-then-not-collection_due-clause-leaves
 returns-then-not-collection_due-clause-leaves g c =
     let flash = g.N.Nand.flash c.args.nand.now in
     leaves_still c.args.mounted.now flash flash _ refl c.requires.stands (omega arith)
+
+pub returns-then-not-collection_due-clause-ended : goal.returns-then-not-collection_due-clause-ended
+returns-then-not-collection_due-clause-ended g c = inl (c.requires.rested, λ due. let is = c.collection_due.ensures.1 due in let isn't = c.if-not-collection_due.true in absurd cc)
 
 pub returns-in_err-reclaim-clause-leaves : goal.returns-in_err-reclaim-clause-leaves
 returns-in_err-reclaim-clause-leaves g c =
@@ -40,6 +43,9 @@ end_block-requires-clause-copied g c =
       copies = done.collected.copies;
       all = subst (λ (o : Option ℕ). IfSome o (λ _. AllCopied c.copy_block.new.reclaim c.copy_block.new.mounted.values)) c.in-Some.is done.all;
     }
+
+pub end_block-requires-clause-unfrozen : goal.end_block-requires-clause-unfrozen
+end_block-requires-clause-unfrozen g c = rested_unfrozen c.args.mounted.now c.copy_block.new.mounted (c.copy_block.ensures.index ∙ c.take_up.ensures.index) c.requires.rested
 
 pub returns-in-Some-clause-leaves : goal.returns-in-Some-clause-leaves
 returns-in-Some-clause-leaves g c =
@@ -84,13 +90,13 @@ returns-in-Some-clause-ended g c =
     all_since old mid (g.N.Nand.flash c.end_block.new.nand) m c.end_block.new.mounted v c.args.operations c.in-Some.left b (c.collection_due.ensures.0 c.if-not-collection_due.false)
     (as_many m c.take_up.new.mounted v c.in_ok-reclaim.ensures.rest done.none) c.end_block.result c.end_block.ensures.ended
 
-pub returns-in-Some-clause-exact : goal.returns-in-Some-clause-exact
-returns-in-Some-clause-exact g c =
+pub returns-in-Some-clause-counted : goal.returns-in-Some-clause-counted
+returns-in-Some-clause-counted g c =
     let old = g.N.Nand.flash c.args.nand.now in
     let mid = g.N.Nand.flash c.copy_block.new.nand in
     let done = c.in_ok-left.ensures in
     let b : IsBegun old mid c.args.operations c.in-Some.left = begun old mid c.args.operations c.in-Some.left _ c.in-Some.is (omega (arith, c.ranges.operations.fits)) done.few done.works done.exact in
-    exact_since old mid (g.N.Nand.flash c.end_block.new.nand) c.args.operations c.in-Some.left b c.end_block.result c.end_block.ensures.few c.end_block.ensures.exact
+    counted_more old mid (g.N.Nand.flash c.end_block.new.nand) c.end_block.new.mounted c.args.operations c.in-Some.left b c.end_block.result c.end_block.ensures.few c.end_block.ensures.counted
 
 pub returns-in-Some-clause-idle : goal.returns-in-Some-clause-idle
 returns-in-Some-clause-idle g c nothing = absurd (nothing (c.collection_due.ensures.0 c.if-not-collection_due.false))

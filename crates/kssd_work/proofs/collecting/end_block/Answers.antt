@@ -1,10 +1,8 @@
-use Rattle.std.proofs.Common.{◌≡◌, ◌∙◌, ◌⊎◌, ℕ, ◌-◌, ◌<◌, ◌≤◌, ◌^◌, true, false, sym, subst, inl, inr, arith}
+use Rattle.std.proofs.Common.{◌≡◌, ◌∙◌, ℕ, ◌-◌, ◌≤◌, ◌^◌, sym, subst, inl, inr, arith}
 use Rattle.std.proofs.lemmas.Result.{err_from_is_err_and}
 use Rattle.kv_nand.specs.Working.{ops_more}
 use Rattle.kv_nand.proofs.Chaining.{works_within, stops_within}
-use Rattle.kssd_collect.specs.Costs.{most_finish_cost}
-use Rattle.kssd_collect.specs.Collecting.{has_place_for}
-use Rattle.kssd_work.proofs.Rounds.{none_done, busy_leaves, freed, nothing_copied, some_copied, copied_none_due, waits_still, ends_within, stops_ending}
+use Rattle.kssd_work.proofs.Rounds.{none_done, busy_leaves, freed, nothing_copied, some_copied, copied_counted}
 use Rattle.kssd_work.proofs.collecting.end_block.Goals as goal
 
 pub returns-then-operations-eq0-clause-leaves : goal.returns-then-operations-eq0-clause-leaves
@@ -13,7 +11,7 @@ returns-then-operations-eq0-clause-leaves g c = busy_leaves c.args.mounted.now (
 pub returns-then-operations-eq0-clause-ended : goal.returns-then-operations-eq0-clause-ended
 returns-then-operations-eq0-clause-ended g c =
     let none = c.if-operations-eq0.true in
-    inr (inl (none_done (g.N.Nand.flash c.args.nand.now) c.args.operations 4 (g.met.N.Nand.sound c.args.nand.now) (omega (arith, none))))
+    inr (none_done (g.N.Nand.flash c.args.nand.now) c.args.operations 4 (g.met.N.Nand.sound c.args.nand.now) (omega (arith, none)))
 
 pub returns-in_err-finish-clause-stops : goal.returns-in_err-finish-clause-stops
 returns-in_err-finish-clause-stops g c =
@@ -33,49 +31,41 @@ returns-then-is_empty-clause-works g c =
 pub returns-then-is_empty-clause-ended : goal.returns-then-is_empty-clause-ended
 returns-then-is_empty-clause-ended g c = freed c.args.mounted.now.values c.finish.new.mounted c.in_ok-finish.ensures.over c.in_ok-finish.ensures.frees
 
-pub returns-then-is_empty-clause-exact : goal.returns-then-is_empty-clause-exact
-returns-then-is_empty-clause-exact g c =
+pub returns-then-is_empty-clause-counted : goal.returns-then-is_empty-clause-counted
+returns-then-is_empty-clause-counted g c =
     let old = g.N.Nand.flash c.args.nand.now in
     let new = g.N.Nand.flash c.finish.new.nand in
     let empty = nothing_copied c.args.reclaim c.as_slice.result.now (c.as_slice.ensures ∙ c.copies.ensures.copies) (sym c.is_empty.ensures ∙ c.if-is_empty.true) in
     let one : 1 ≡ c.args.operations - (c.args.operations - 1) = omega (arith, c.if-operations-eq0.false) in
-    subst (λ (n : ℕ). new.ops ≡ ops_more old n) one (c.in_ok-finish.ensures.none empty).1
+    inl (subst (λ (n : ℕ). new.ops ≡ ops_more old n) one (c.in_ok-finish.ensures.none empty).1)
 
-pub returns-in_err-may_finish-clause-leaves : goal.returns-in_err-may_finish-clause-leaves
-returns-in_err-may_finish-clause-leaves g c = busy_leaves c.args.mounted.now (g.N.Nand.flash c.args.nand.now) _ c.requires.copied.busy (omega arith)
+pub returns-then-operations-lt-FINISH_OPERATIONS-clause-leaves : goal.returns-then-operations-lt-FINISH_OPERATIONS-clause-leaves
+returns-then-operations-lt-FINISH_OPERATIONS-clause-leaves g c = busy_leaves c.args.mounted.now (g.N.Nand.flash c.args.nand.now) _ c.requires.copied.busy (omega arith)
 
-pub returns-then-not-branch-clause-leaves : goal.returns-then-not-branch-clause-leaves
-returns-then-not-branch-clause-leaves g c = busy_leaves c.args.mounted.now (g.N.Nand.flash c.args.nand.now) _ c.requires.copied.busy (omega arith)
-
-pub returns-then-not-branch-clause-ended : goal.returns-then-not-branch-clause-ended
-returns-then-not-branch-clause-ended g c =
-    let flash = g.N.Nand.flash c.args.nand.now in
-    let r = c.args.reclaim in
-    let m = c.args.mounted.now in
-    let operations = c.args.operations in
-    waits_still r m flash operations (g.met.N.Nand.sound c.args.nand.now) c.requires.copied.all
-    (subst (λ (b : ℕ). (operations < 4) ⊎ ((has_place_for r m ≡ false) × (operations < most_finish_cost b))) c.blocks-2.ensures (c.in_ok-may_finish.ensures.short c.if-not-branch.true))
+pub returns-then-operations-lt-FINISH_OPERATIONS-clause-ended : goal.returns-then-operations-lt-FINISH_OPERATIONS-clause-ended
+returns-then-operations-lt-FINISH_OPERATIONS-clause-ended g c =
+    inr (none_done (g.N.Nand.flash c.args.nand.now) c.args.operations 4 (g.met.N.Nand.sound c.args.nand.now) (omega (arith, c.if-operations-lt-FINISH_OPERATIONS.true)))
 
 pub returns-in_err-finish-2-clause-stops : goal.returns-in_err-finish-2-clause-stops
 returns-in_err-finish-2-clause-stops g c =
     let old = g.N.Nand.flash c.args.nand.now in
     let new = g.N.Nand.flash c.finish-2.new.nand in
-    let place = has_place_for c.args.reclaim c.args.mounted.now in
-    let operations = c.args.operations in
-    let enough = subst (λ (b : ℕ). ((place ≡ true) × (4 ≤ operations)) ⊎ (most_finish_cost b ≤ operations)) c.blocks-2.ensures (c.in_ok-may_finish.ensures.enough c.if-not-branch.false) in
     let p = err_from_is_err_and c.from_residual-in_err-finish-2.result c.from_residual-in_err-finish-2.ensures.1 in
-    rw (p.1, p.2) (stops_ending old new _ place operations _ enough c.in_err-finish-2.ensures.stops c.in_err-finish-2.ensures.placed_stops)
+    rw (p.1, p.2) (stops_within old new _ 4 (2 ^ 64) c.args.operations (2 ^ 64) (c.in_err-finish-2.ensures.unfrozen_stops c.requires.unfrozen) (omega (arith, c.if-operations-lt-FINISH_OPERATIONS.false)) (omega arith))
 
 pub returns-clause-works : goal.returns-clause-works
 returns-clause-works g c =
     let old = g.N.Nand.flash c.args.nand.now in
     let new = g.N.Nand.flash c.finish-2.new.nand in
-    let place = has_place_for c.args.reclaim c.args.mounted.now in
-    let operations = c.args.operations in
-    let enough = subst (λ (b : ℕ). ((place ≡ true) × (4 ≤ operations)) ⊎ (most_finish_cost b ≤ operations)) c.blocks-2.ensures (c.in_ok-may_finish.ensures.enough c.if-not-branch.false) in
-    works_within old new operations (2 ^ 64) _ _ (ends_within old new place operations _ enough c.in_ok-finish-2.ensures.works c.in_ok-finish-2.ensures.placed) (omega arith) (omega arith)
+    let four : 4 ≤ c.args.operations - (c.args.operations - 4) = omega (arith, c.if-operations-lt-FINISH_OPERATIONS.false) in
+    works_within old new 4 (2 ^ 64) (c.args.operations - (c.args.operations - 4)) (2 ^ 64) (c.in_ok-finish-2.ensures.unfrozen c.requires.unfrozen).works four (omega arith)
 
 pub returns-clause-ended : goal.returns-clause-ended
-returns-clause-ended g c =
+returns-clause-ended g c = freed c.args.mounted.now.values c.finish-2.new.mounted c.in_ok-finish-2.ensures.over c.in_ok-finish-2.ensures.frees
+
+pub returns-clause-counted : goal.returns-clause-counted
+returns-clause-counted g c =
+    let old = g.N.Nand.flash c.args.nand.now in
+    let new = g.N.Nand.flash c.finish-2.new.nand in
     let some = some_copied c.args.reclaim c.as_slice.result.now (c.as_slice.ensures ∙ c.copies.ensures.copies) (sym c.is_empty.ensures ∙ c.if-is_empty.false) in
-    inl (copied_none_due c.args.reclaim c.args.mounted.now.values c.finish-2.new.mounted c.requires.copied.copies.few some c.in_ok-finish-2.ensures.over c.in_ok-finish-2.ensures.frees)
+    copied_counted c.args.reclaim c.args.mounted.now.values c.finish-2.new.mounted old new c.args.operations c.requires.copied.copies.few some c.in_ok-finish-2.ensures.over c.in_ok-finish-2.ensures.frees (omega (arith, c.if-operations-lt-FINISH_OPERATIONS.false)) (c.in_ok-finish-2.ensures.unfrozen c.requires.unfrozen)

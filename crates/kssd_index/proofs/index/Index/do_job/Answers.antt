@@ -1,10 +1,9 @@
-use Rattle.std.proofs.Common.{◌∙◌, ◌<◌, [], ap, sym, subst, arith}
+use Rattle.std.proofs.Common.{◌∙◌, ◌<◌, ap, sym, subst, arith}
 use Rattle.std.proofs.lemmas.Result.{err_from_is_err_and}
-use Rattle.kssd_levels.specs.Levels.{due_of}
-use Rattle.kssd_root.specs.declared.root.Root.{Root}
 use Rattle.kssd_root.specs.UnderWay.{IsUnderWay}
 use Rattle.kssd_index.specs.declared.index.Index.{Index}
-use Rattle.kssd_index.specs.Working.{jobs_ahead}
+use Rattle.kssd_index.specs.Standing.{job_table}
+use Rattle.kssd_index.specs.Working.{due_in, jobs_ahead}
 use Rattle.kssd_index.proofs.JobSteps.{on_then_on, on_then_stops, kept_after, back_on}
 use Rattle.kssd_index.proofs.index.Index.do_job.Goals as goal
 
@@ -18,13 +17,13 @@ pub name_done-requires-clause-due : goal.name_done-requires-clause-due
 name_done-requires-clause-due g c =
     let old = g.N.Nand.flash c.args.nand.now in
     let mid = g.N.Nand.flash c.carry_on.new.nand in
-    ap (λ (i : Index). due_of i.root.levels) c.carry_on.ensures.rest ∙ c.requires.due
+    ap due_in c.carry_on.ensures.rest ∙ c.requires.due
 
 pub name_done-requires-clause-way : goal.name_done-requires-clause-way
 name_done-requires-clause-way g c =
     let old = g.N.Nand.flash c.args.nand.now in
     let mid = g.N.Nand.flash c.carry_on.new.nand in
-    subst (λ (r : Root). IsUnderWay c.args.kind c.in_ok-job.job [] r mid.blocks mid.image) (sym (ap (λ (i : Index). i.root) c.carry_on.ensures.rest)) c.in_ok-job.ensures.way
+    subst (λ (i : Index). IsUnderWay c.args.kind c.in_ok-job.job (job_table c.args.kind i.older) i.root mid.blocks mid.image) (sym c.carry_on.ensures.rest) c.in_ok-job.ensures.way
 
 pub name_done-requires-clause-none : goal.name_done-requires-clause-none
 name_done-requires-clause-none g c =
@@ -48,7 +47,7 @@ pub returns-then-not-done-clause-on : goal.returns-then-not-done-clause-on
 returns-then-not-done-clause-on g c =
     let old = g.N.Nand.flash c.args.nand.now in
     let mid = g.N.Nand.flash c.carry_on.new.nand in
-    back_on c.args.kind c.in_ok-job.job c.args.operations c.in_ok-job.left c.carry_on.new.self old mid c.in_ok-job.ensures.on (subst (λ (r : Root). IsUnderWay c.args.kind c.in_ok-job.job [] r mid.blocks mid.image) (sym (ap (λ (i : Index). i.root) c.carry_on.ensures.rest)) c.in_ok-job.ensures.way)
+    back_on c.args.kind c.in_ok-job.job c.args.operations c.in_ok-job.left c.carry_on.new.self old mid (ap due_in c.carry_on.ensures.rest ∙ c.requires.due) c.in_ok-job.ensures.on (subst (λ (i : Index). IsUnderWay c.args.kind c.in_ok-job.job (job_table c.args.kind i.older) i.root mid.blocks mid.image) (sym c.carry_on.ensures.rest) c.in_ok-job.ensures.way)
 
 pub returns-then-not-done-clause-kept : goal.returns-then-not-done-clause-kept
 returns-then-not-done-clause-kept g c =
@@ -103,10 +102,10 @@ pub returns-clause-named : goal.returns-clause-named
 returns-clause-named g c =
     let old = g.N.Nand.flash c.args.nand.now in
     let mid = g.N.Nand.flash c.carry_on.new.nand in
-    λ named. subst (λ (i : Index). jobs_ahead c.name_done.new.self.root.levels < jobs_ahead i.root.levels) c.carry_on.ensures.rest (c.in_ok-progress.ensures.named named)
+    λ named. subst (λ (i : Index). jobs_ahead c.name_done.new.self < jobs_ahead i) c.carry_on.ensures.rest (c.in_ok-progress.ensures.named named)
 
 pub returns-clause-end : goal.returns-clause-end
 returns-clause-end g c =
     let old = g.N.Nand.flash c.args.nand.now in
     let mid = g.N.Nand.flash c.carry_on.new.nand in
-    λ stays. (c.in_ok-progress.ensures.end stays).0
+    λ stays. c.in_ok-progress.ensures.end stays

@@ -33,7 +33,7 @@ do_job-requires-clause-due g c =
 
 pub do_job-requires-clause-number : goal.do_job-requires-clause-number
 do_job-requires-clause-number g c =
-    omega (arith, c.requires.number, c.jobs.invariant.ages, jobs_few c.args.self.now.root.levels)
+    omega (arith, c.requires.number, c.jobs.invariant.ages, jobs_few c.args.self.now)
 
 pub returns-in_err-progress-clause-kept : goal.returns-in_err-progress-clause-kept
 returns-in_err-progress-clause-kept g c =
@@ -44,7 +44,7 @@ returns-in_err-progress-clause-kept g c =
 
 pub returns-in_err-progress-clause-ages : goal.returns-in_err-progress-clause-ages
 returns-in_err-progress-clause-ages g c =
-    omega (arith, c.jobs.invariant.ages, c.do_job.ensures.ages, jobs_few c.args.self.now.root.levels)
+    omega (arith, c.jobs.invariant.ages, c.do_job.ensures.ages, jobs_few c.args.self.now)
 
 pub returns-in_err-progress-clause-stops : goal.returns-in_err-progress-clause-stops
 returns-in_err-progress-clause-stops g c =
@@ -67,7 +67,7 @@ returns-then-not-progress-clause-kept g c =
 
 pub returns-then-not-progress-clause-ages : goal.returns-then-not-progress-clause-ages
 returns-then-not-progress-clause-ages g c =
-    omega (arith, c.jobs.invariant.ages, c.do_job.ensures.ages, jobs_few c.args.self.now.root.levels)
+    omega (arith, c.jobs.invariant.ages, c.do_job.ensures.ages, jobs_few c.args.self.now)
 
 pub returns-then-not-progress-clause-left : goal.returns-then-not-progress-clause-left
 returns-then-not-progress-clause-left g c =
@@ -110,7 +110,7 @@ returns-clause-aged g c =
 
 pub returns-clause-ages : goal.returns-clause-ages
 returns-clause-ages g c =
-    omega (arith, c.jobs.invariant.ages, jobs_few c.args.self.now.root.levels)
+    omega (arith, c.jobs.invariant.ages, jobs_few c.args.self.now)
 
 pub returns-clause-whole : goal.returns-clause-whole
 returns-clause-whole g c =

@@ -6,9 +6,9 @@ use Rattle.kssd_index.proofs.index.Index.work.Given as goal
 abbrev pub invariant-jobs : goal.invariant-jobs
 invariant-jobs g l = record {
   on : WorksOn l.fn.operations l.left (g.N.Nand.flash l.initial.nand) l.self (g.N.Nand.flash l.nand);
-  ages : index_age l.self + jobs_ahead l.self.root.levels ≤ index_age l.initial.self + jobs_ahead l.initial.self.root.levels;
+  ages : index_age l.self + jobs_ahead l.self ≤ index_age l.initial.self + jobs_ahead l.initial.self;
   idle : due_in l.initial.self ≡ None → (l.self ≡ l.initial.self) × (g.N.Nand.flash l.nand ≡ g.N.Nand.flash l.initial.nand) × (l.left ≡ l.fn.operations);
 }
 
 abbrev pub decreases-jobs : goal.decreases-jobs
-decreases-jobs g l = jobs_ahead l.self.root.levels
+decreases-jobs g l = jobs_ahead l.self
