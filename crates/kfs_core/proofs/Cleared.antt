@@ -1,5 +1,5 @@
 -- The nodes without a name go one by one, and the same tree is shown without them.
-use Rattle.std.proofs.Common.{◌≡◌, ℕ, ◌<◌, ◌≤◌, ◌+◌, ◌^◌, inl, inr, true, cond, refl, sym, ◌∙◌, ap, subst, arith, List, Option, Some, None, IsSome}
+use Rattle.std.proofs.Common.{◌≡◌, ℕ, ◌<◌, ◌≤◌, ◌+◌, ◌^◌, ◌⊎◌, inl, inr, true, cond, refl, sym, ◌∙◌, ap, subst, arith, List, Option, Some, None, IsSome}
 use Rattle.std.specs.Ordering.{nat_cmp}
 use Rattle.std.specs.Cmp.{nat_cmp_total}
 use Rattle.std.specs.FinMap as objects
@@ -9,10 +9,8 @@ use Rattle.kv_device.specs.declared.fault.DeviceFault.{DeviceFault}
 use Rattle.kv_device.specs.declared.fault.DeviceFault.TheVariants.{Memory}
 use Rattle.kv_device.specs.declared.fault.DeviceFault.TheVariants as faults
 use Rattle.kv_device.specs.Objects.{Objects}
-use Rattle.kv_device.specs.Machine.{Machine, none_open}
-use Rattle.kfs_objects.specs.declared.keys.ObjectKey.{ObjectKey}
-use Rattle.kfs_objects.specs.declared.keys.ObjectKey.TheVariants.{Orphan}
-use Rattle.kfs_objects.specs.Forms.{SpellsKey, spells_super, spells_inode, spells_entry, spells_chunk, spells_orphan}
+use Rattle.kv_device.specs.Machine.{Machine, Transactions, none_open}
+use Rattle.kv_device.specs.Calls.{has_room, DeleteFault}
 use Rattle.kfs_objects.specs.Keys.{super_key, orphan_key}
 use Rattle.kfs_objects.specs.Records.{orphan_value}
 use Rattle.kfs_laws.proofs.Keeping.{named_kept}
@@ -23,9 +21,10 @@ use Rattle.kfs_shows.specs.Laws.{without_node, DropsNode}
 use Rattle.kfs_shows.proofs.Dropping.{still_tree, still_shows, is_kept}
 use Rattle.kfs_shows.proofs.KeysApart.{kinds}
 use Rattle.kfs_shows.proofs.Sweeping.{nameless_test}
-use Rattle.kfs_tx.specs.Run.{Run, Caused, Fallen, CommitFault, seen, started, committed, deleted_in}
+use Rattle.kfs_tx.specs.Run.{Run, HasCause, Fallen, CommitFault, seen, started, committed, deleted_in}
+use Rattle.kfs_tx.proofs.Falling.{commit_falls, delete_falls}
+use Rattle.kfs_file.proofs.Failing.{fallen_before}
 use Rattle.kfs_file.specs.Contents.{Fails}
-use Rattle.kfs_file.proofs.Failing.{cause_before}
 use Rattle.kfs_core.specs.Clearing.{Keeps, Cleared, Clears, ClearFails, IsFresh, NoOrphans, with_stable}
 use Rattle.kfs_core.specs.Flat.{inode_in}
 use Rattle.kfs_core.specs.Removing.{Goes, chunks_for}
@@ -68,13 +67,6 @@ keeps_to a b c e h = subst (Keeps a) (sym e) h
 
 -- ---- one node
 
-pub orphan_spelled : (key : List ℕ) (form : ObjectKey) (n : ℕ) → SpellsKey key form → form ≡ Orphan n → (key ≡ orphan_key n) × (n < 2 ^ 64)
-orphan_spelled _ _ n spells_super e = absurd (cc)
-orphan_spelled _ _ n (spells_inode m l) e = absurd (cc)
-orphan_spelled _ _ n (spells_entry m x l s) e = absurd (cc)
-orphan_spelled _ _ n (spells_chunk m c l s) e = absurd (cc)
-orphan_spelled _ _ n (spells_orphan m l) e = let same : m ≡ n = cc in (ap orphan_key same, subst (λ k. k < 2 ^ 64) same l)
-
 module _ (m : Objects) (t : Tree) (k n : ℕ) (tree : IsTree t) (shows : Shows m t k) (low : n < 2 ^ 64) (v : List ℕ) (there : objects.get m (orphan_key n) ≡ Some v) where
   no_name : IsNameless t n
   no_name place e = let bad : Some v ≡ None = sym there ∙ shows.tree.named place n e in cc
@@ -101,6 +93,20 @@ some_value : (o : Option (List ℕ)) → IsSome o → (v : List ℕ) × (o ≡ S
 some_value None h = absurd (cc)
 some_value (Some v) h = (v, refl)
 
+cause_either : (old : Machine) (after : Objects) (fault : DeviceFault) (new : Machine) → Fallen old fault old.stable new ⊎ Fallen old fault after new → HasCause old fault new
+cause_either old after fault new h = elim h [ inl a ↦ a.cause | inr a ↦ a.cause ]
+
+-- what is pending or stored makes no difference
+has_cause_before : (m : Machine) (pending : Transactions) (fault : DeviceFault) (new : Machine) → HasCause (record m { pending = pending }) fault new → HasCause m fault new
+has_cause_before m pending faults.NoTx new h = h
+has_cause_before m pending faults.Busy new h = h
+has_cause_before m pending faults.TxFull new h = h
+has_cause_before m pending (faults.Full k q) new h = h
+has_cause_before m pending faults.BadSize new h = h
+has_cause_before m pending faults.Off new h = h
+has_cause_before m pending faults.Failed new h = h
+has_cause_before m pending faults.Memory new h = h
+
 module _ (old new : Run) (key : List ℕ) (node kind size : ℕ) (fresh : IsFresh old) (there : IsSome (objects.get (seen old) key)) (is : key ≡ orphan_key node) (low : node < 2 ^ 64) (inode : inode_in (seen old) node ≡ Some (kind, size)) (short : size ≤ 2 ^ 20) (goes : Goes old node size new) where
   follows : Follows old (deleted_in new key) (chunks_for size + 1 + 1)
   follows = follows_deleted old new key (chunks_for size + 1) (goes_follows old new node size goes)
@@ -122,13 +128,13 @@ module _ (old new : Run) (key : List ℕ) (node kind size : ℕ) (fresh : IsFres
       let stands : r.machine.stable ≡ seen (deleted_in new key) = ap (λ (x : Run). x.machine.stable) e in
       record { same = e ∙ ap (with_stable old) (sym stands); keeps = keeps_to _ _ _ stands one_kept }
 
-  pub commit_clears : (fault : DeviceFault) (after : Machine) → CommitFault (deleted_in new key) fault after → ClearFails old fault after
-  commit_clears fault after h =
+  pub commit_clears : has_room (deleted_in new key).machine (seen (deleted_in new key)) ≡ true → (fault : DeviceFault) (after : Machine) → CommitFault (deleted_in new key) fault after → ClearFails old fault after
+  commit_clears room fault after h =
       let r = deleted_in new key in
       let e = commit_either r fault after (follows.ready (fresh_ready old fresh)) h in
       let same = follows.same in
       record {
-        cause = cause_before old.machine r.machine.pending fault after (subst (λ (x : Run). Caused x.machine fault after) same h.1);
+        cause = has_cause_before old.machine r.machine.pending fault after (subst (λ (x : Run). HasCause x.machine fault after) same (cause_either r.machine (seen r) fault after (commit_falls r fault after (follows.ready (fresh_ready old fresh)) room h)));
         keeps = elim (e.0) [
           | inl before ↦ keeps_to _ _ _ (before ∙ ap (λ (x : Run). x.machine.stable) same) (keeps_same old.machine.stable)
           | inr after' ↦ keeps_to _ _ _ after' one_kept
@@ -143,11 +149,21 @@ module _ (old new : Run) (key : List ℕ) (node kind size : ℕ) (fresh : IsFres
 
 -- ---- failures between
 
-fell : (old : Run) (fault : DeviceFault) (new : Machine) → Caused old.machine fault new → Fallen old.machine fault old.machine.stable new → ClearFails old fault new
-fell old fault new cause f = record { cause = cause; keeps = keeps_to _ _ _ f.stable (keeps_same old.machine.stable); bounds = f.bounds }
+pub fell : (old : Run) (fault : DeviceFault) (new : Machine) → Fallen old.machine fault old.machine.stable new → ClearFails old fault new
+fell old fault new f = record { cause = f.cause; keeps = keeps_to _ _ _ f.stable (keeps_same old.machine.stable); bounds = f.bounds }
 
 pub fails_clear : (old : Run) (keys : ℕ) (fault : DeviceFault) (new : Machine) → IsFresh old → keys ≤ 640 → Fails old keys fault new → ClearFails old fault new
-fails_clear old keys fault new fresh few h = fell old fault new h.cause (h.fallen (fresh_ready old fresh) (let z = fresh_keys old fresh in omega arith))
+fails_clear old keys fault new fresh few h = fell old fault new (h.fallen (fresh_ready old fresh) (let z = fresh_keys old fresh in omega arith))
+
+-- the deletion of the orphan object failed
+pub delete_clears : (old mid : Run) (node size : ℕ) → Goes old node size mid → IsFresh old → size ≤ 2 ^ 20 → (key : List ℕ) (fault : DeviceFault) (after : Machine) → DeleteFault mid.machine mid.tx key fault after → ClearFails old fault after
+delete_clears old mid node size goes fresh short key fault after h =
+    let follows = goes_follows old mid node size goes in
+    let ready = fresh_ready old fresh in
+    let few = follows.few ready in
+    let none = fresh_keys old fresh in
+    let fallen = delete_falls mid key fault after (follows.ready ready) (omega arith) h in
+    fell old fault after (fallen_before old.machine mid.machine.pending fault after (subst (λ (x : Run). Fallen x.machine fault x.machine.stable after) follows.same fallen))
 
 -- ---- one after the other
 
@@ -160,7 +176,7 @@ clears_both old mid new a b = record {
 -- a failure after some of them
 pub clear_fails_after : (old mid : Run) (fault : DeviceFault) (new : Machine) → Clears old mid → ClearFails mid fault new → ClearFails old fault new
 clear_fails_after old mid fault new a f = record {
-  cause = cause_over old.machine mid.machine.stable fault new (subst (λ (x : Run). Caused x.machine fault new) a.same f.cause);
+  cause = cause_over old.machine mid.machine.stable fault new (subst (λ (x : Run). HasCause x.machine fault new) a.same f.cause);
   keeps = keeps_both _ _ _ a.keeps f.keeps;
   bounds = record {
     most_cuts = f.bounds.most_cuts ∙ ap (λ (x : Run). x.machine.most_cuts) a.same;
@@ -170,7 +186,7 @@ clear_fails_after old mid fault new a f = record {
   };
 }
   where
-    cause_over : (m : Machine) (s : Objects) (fault : DeviceFault) (new : Machine) → Caused (record m { stable = s }) fault new → Caused m fault new
+    cause_over : (m : Machine) (s : Objects) (fault : DeviceFault) (new : Machine) → HasCause (record m { stable = s }) fault new → HasCause m fault new
     cause_over m s faults.NoTx new h = h
     cause_over m s faults.Busy new h = h
     cause_over m s faults.TxFull new h = h

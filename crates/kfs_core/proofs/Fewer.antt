@@ -32,9 +32,9 @@ some_of None h = absurd (cc)
 some_of (Some v) h = (v, refl)
 
 -- where each key was there before there are no more
-no_more : (old new : Objects) → ((q v : List ℕ) → objects.get new q ≡ Some v → (w : List ℕ) × (objects.get old q ≡ Some w)) → objects.len new ≤ objects.len old
+pub no_more : (old new : Objects) → ((q v : List ℕ) → objects.get new q ≡ Some v → objects.get old q ≡ Some v) → objects.len new ≤ objects.len old
 no_more old new h =
-    let few = few_kept (λ e. true) new (map (λ e. e.0) (objects.entries old)) (λ q v e _. let w = h q v e in found_in (objects.entries old) q w.0 (sym (objects.get-entries old q) ∙ w.1)) in
+    let few = few_kept (λ e. true) new (map (λ e. e.0) (objects.entries old)) (λ q v e _. found_in (objects.entries old) q v (sym (objects.get-entries old q) ∙ h q v e)) in
     let a = kept_all (objects.entries new) in
     let b = objects.len-entries new in
     let c = objects.len-entries old in
@@ -74,12 +74,12 @@ module _ (old new : Run) (node size : ℕ) (goes : Goes old node size new) (read
   seen_now : seen new ≡ objects.remove (seen goes.mid) (inode_key node)
   seen_now = ap seen goes.inode ∙ seen_deleted goes.mid (inode_key node) (goes.chunks.ready ready)
 
-  was_there : (q v : List ℕ) → objects.get (seen new) q ≡ Some v → (w : List ℕ) × (objects.get (seen old) q ≡ Some w)
+  pub was_there : (q v : List ℕ) → objects.get (seen new) q ≡ Some v → objects.get (seen old) q ≡ Some v
   was_there q v e = elim (decide_bytes q (inode_key node)) [
     | inl same ↦ absurd (let bad : Some v ≡ None = sym e ∙ ap (objects.get (seen new)) same ∙ inode_gone old new node size goes ready low short in cc)
     | inr d ↦ elim (chunk_or q node (chunks_for size)) [
       | inl h ↦ absurd (let lt = h.1 in let bad : Some v ≡ None = sym e ∙ ap (objects.get (seen new)) h.2 ∙ chunk_gone old new node size goes ready low short h.0 (omega arith) (λ le. absurd (omega arith)) in cc)
-      | inr none ↦ (v, sym (ap (λ m. objects.get m q) seen_now ∙ key_kept (seen goes.mid) (inode_key node) q d ∙ goes.chunks.others q ready (λ c from lt. none c lt)) ∙ e)
+      | inr none ↦ sym (ap (λ m. objects.get m q) seen_now ∙ key_kept (seen goes.mid) (inode_key node) q d ∙ goes.chunks.others q ready (λ c from lt. none c lt)) ∙ e
     ]
   ]
 

@@ -11,6 +11,11 @@ pub mod Fewer
 pub mod Fresh
 pub mod Cleared
 pub mod Orphans
+pub mod Roomy
+pub mod Swept
+pub mod Tidied
+pub mod Listed
+pub mod Within
 pub mod LastNames
 pub mod Naming
 pub mod Lengths
@@ -34,6 +39,7 @@ pub mod NamesAfter
 pub mod CuttingJudges
 pub mod Plans
 pub mod Refused
+pub mod Outside
 pub mod InOrder
 pub mod Told
 pub mod Small

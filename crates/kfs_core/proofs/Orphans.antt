@@ -20,12 +20,16 @@ wanted_orphan n = by (be64 n)
     by [] = refl
     by (x ∷ xs) = refl
 
-found_in_filter : (m : Objects) (w : List ℕ → Bool) (q : List ℕ) → find bytes_cmp q (filter (λ e. w e.0) (objects.entries m)) ≡ cond (w q) (objects.get m q) None
+pub found_in_filter : (m : Objects) (w : List ℕ → Bool) (q : List ℕ) → find bytes_cmp q (filter (λ e. w e.0) (objects.entries m)) ≡ cond (w q) (objects.get m q) None
 found_in_filter m w q = find-where_key bytes_cmp w q (λ x e. ap w (sym (same_bytes q x e))) (objects.entries m) ∙ ap (λ o. cond (w q) o None) (sym (objects.get-entries m q))
 
 passed : (b : Bool) (o : Option (List ℕ)) (v : List ℕ) → cond b o None ≡ Some v → o ≡ Some v
 passed true o v e = e
 passed false o v e = absurd (cc)
+
+passed_test : (b : Bool) (o : Option (List ℕ)) (v : List ℕ) → cond b o None ≡ Some v → b ≡ true
+passed_test true o v e = refl
+passed_test false o v e = absurd (cc)
 
 abbrev first_is : Objects → List (List ℕ × List ℕ) → List Pair → Type 0
 first_is m fs pairs = (pair : Pair) → map pair_of pairs ≡ take 1 fs → slice_get pairs 0 ≡ Some pair → find bytes_cmp pair.key fs ≡ Some pair.value
@@ -46,6 +50,13 @@ first_there m p pairs pair e f =
     let w = λ (q : List ℕ). is_wanted p p q in
     let there : objects.get m pair.key ≡ Some pair.value = passed (w pair.key) (objects.get m pair.key) pair.value (sym (found_in_filter m w pair.key) ∙ first_found m (filter (λ e. w e.0) (objects.entries m)) pairs pair e f) in
     subst IsSome (sym there) refl
+
+-- its key begins with it
+pub first_wanted : (m : Objects) (p : List ℕ) (pairs : List Pair) (pair : Pair) → map pair_of pairs ≡ take 1 (pairs_from m p p) → slice_get pairs 0 ≡ Some pair → is_wanted p p pair.key ≡ true
+unfolding pairs_from
+first_wanted m p pairs pair e f =
+    let w = λ (q : List ℕ). is_wanted p p q in
+    passed_test (w pair.key) (objects.get m pair.key) pair.value (sym (found_in_filter m w pair.key) ∙ first_found m (filter (λ e. w e.0) (objects.entries m)) pairs pair e f)
 
 nothing : (fs : List (List ℕ × List ℕ)) (pairs : List Pair) → length pairs ≡ 0 → map pair_of pairs ≡ take 1 fs → fs ≡ []
 nothing [] pairs z e = refl

@@ -1,13 +1,16 @@
 -- The nodes without a name, which a mount removes.
-use Rattle.std.specs.Prelude.{ℕ, ◌≡◌, ◌≤◌, ◌^◌, true, [], ◌∷◌, Some, None}
+use Rattle.std.specs.Prelude.{ℕ, ◌≡◌, ◌≢◌, ◌<◌, ◌≤◌, ◌^◌, List, true, [], ◌∷◌, Some, None}
 use Rattle.std.specs.FinMap as objects
 use Rattle.kv_device.specs.declared.fault.DeviceFault.{DeviceFault}
-use Rattle.kv_device.specs.Objects.{Objects}
+use Rattle.kv_device.specs.Objects.{Objects, is_wanted}
 use Rattle.kv_device.specs.Machine.{Machine}
-use Rattle.kfs_objects.specs.Keys.{orphan_key}
-use Rattle.kfs_model.specs.Tree.{Tree, IsTree, IsKept, named}
+use Rattle.kfs_objects.specs.Keys.{orphan_key, orphan_front, inode_key, inode_front, IsObjectKey}
+use Rattle.kfs_judge.specs.Judging.{is_key}
+use Rattle.kfs_model.specs.Tree.{Tree, IsTree, IsKept, named, greatest_length}
 use Rattle.kfs_shows.specs.Shows.{Shows}
-use Rattle.kfs_tx.specs.Run.{Run, started, Caused, SameBounds}
+use Rattle.kv_device.specs.Calls.{has_room}
+use Rattle.kfs_tx.specs.Run.{Run, started, seen, HasCause, SameBounds}
+use Rattle.kfs_core.specs.Flat.{inode_in}
 
 -- whatever tree the objects showed, they show it still, without some of its nameless nodes, possibly none
 pub record Keeps (old new : Objects) : Type 0 where
@@ -16,6 +19,26 @@ pub record Keeps (old new : Objects) : Type 0 where
 -- whatever tree the objects showed, they show it without all its nameless nodes
 pub record Cleared (old new : Objects) : Type 0 where
   pub each : (t : Tree) (k : ℕ) → IsTree t → t.next ≤ 2 ^ 63 → Shows old t k → IsTree (named t) × Shows new (named t) k
+
+-- the key begins as those of orphan objects do
+abbrev pub IsOrphanFronted : List ℕ → Type 0
+IsOrphanFronted key = is_wanted orphan_front orphan_front key ≡ true
+
+-- of the keys that a call can name each has a form, no inode is longer than a file may be, and a node with an orphan object has an inode that reads
+pub record IsTidy (m : Objects) : Type 0 where
+  pub forms : (key value : List ℕ) → objects.get m key ≡ Some value → is_key key ≡ true → IsObjectKey key
+  pub lengths : (n kind size : ℕ) → n < 2 ^ 64 → is_key (inode_key n) ≡ true → inode_in m n ≡ Some (kind, size) → size ≤ greatest_length
+  pub inodes : (n : ℕ) (value : List ℕ) → n < 2 ^ 64 → is_key (orphan_key n) ≡ true → objects.get m (orphan_key n) ≡ Some value → inode_in m n ≢ None
+
+-- only objects of nodes with orphan objects went, and of each such node its inode with its orphan object
+pub record Sweeps (old new : Objects) : Type 0 where
+  pub kept : (key value : List ℕ) → objects.get new key ≡ Some value → objects.get old key ≡ Some value
+  pub gone : (n : ℕ) → n < 2 ^ 64 → objects.get old (orphan_key n) ≢ None → objects.get new (orphan_key n) ≡ None → objects.get new (inode_key n) ≡ None
+  pub stays : (n : ℕ) (value : List ℕ) → n < 2 ^ 64 → objects.get new (orphan_key n) ≡ Some value → objects.get new (inode_key n) ≡ objects.get old (inode_key n)
+
+-- a call can name the key of each inode
+abbrev pub AreNodesNamed : Objects → Type 0
+AreNodesNamed m = (key value : List ℕ) → objects.get m key ≡ Some value → is_wanted inode_front inode_front key ≡ true → is_key key ≡ true
 
 -- with nothing pending, and nothing changed but what is stored
 abbrev pub begun_over : Machine → Objects → ℕ → ℕ → Run
@@ -38,9 +61,13 @@ pub record Clears (old new : Run) : Type 0 where
   pub same : new ≡ with_stable old new.machine.stable
   pub keeps : Keeps old.machine.stable new.machine.stable
 
--- a failure between: what stands shows the tree still, without some of its nameless nodes, possibly none
+-- the objects that the transaction sees have room
+abbrev pub IsRoomy : Run → Type 0
+IsRoomy r = has_room r.machine (seen r) ≡ true
+
+-- a failure between, by the count that rose or for want of memory: what stands shows the tree still, without some of its nameless nodes, possibly none
 pub record ClearFails (old : Run) (fault : DeviceFault) (new : Machine) : Type 0 where
-  pub cause : Caused old.machine fault new
+  pub cause : HasCause old.machine fault new
   pub keeps : Keeps old.machine.stable new.stable
   pub bounds : SameBounds old.machine new
 

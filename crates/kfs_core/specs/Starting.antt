@@ -3,7 +3,7 @@ use Rattle.std.specs.Prelude.{◌≡◌, ◌<◌, ◌^◌, ◌⊎◌, Some}
 use Rattle.std.specs.Option.{option_and_then}
 use Rattle.std.specs.FinMap as objects
 use Rattle.kv_device.specs.declared.fault.DeviceFault.{DeviceFault}
-use Rattle.kv_device.specs.declared.fault.DeviceFault.TheVariants.{Off, Failed}
+use Rattle.kv_device.specs.declared.fault.DeviceFault.TheVariants.{Off, Failed, Memory}
 use Rattle.kv_device.specs.Objects.{Objects}
 use Rattle.kv_device.specs.Machine.{Machine, none_open}
 use Rattle.kv_device.specs.Calls.{Rises}
@@ -18,6 +18,13 @@ use Rattle.kfs_core.specs.declared.fault.HostFault.TheVariants.{Damaged, Cut, Ei
 use Rattle.kfs_core.specs.Clearing.{Keeps, Cleared, begun_over}
 use Rattle.kfs_core.specs.Counted.{charge_in, chunks_in}
 use Rattle.kfs_core.specs.Core.{KfsState, run_in}
+
+-- power, the device or memory was missing; the device refused nothing
+abbrev pub IsOutside : DeviceFault → Type 0
+IsOutside Off = Unit {0}
+IsOutside Failed = Unit {0}
+IsOutside Memory = Unit {0}
+IsOutside fault = ⊥
 
 -- a fault of the device, as a mount tells it
 abbrev pub host_fault : DeviceFault → HostFault

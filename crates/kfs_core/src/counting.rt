@@ -1,12 +1,15 @@
 // What a mount counts.
-ghost use Rattle.std.specs.Prelude.{◌≡◌, ◌≤◌, ◌+◌, ◌<◌, ◌-◌, ◌^◌, OnOk, IfOk, IfErr, IfSome};
+ghost use Rattle.std.specs.Prelude.{◌≡◌, ◌≤◌, ◌+◌, ◌<◌, ◌-◌, ◌^◌, true, OnOk, IfOk, IfErr, IfSome};
+ghost use Rattle.std.specs.FinMap as objects;
 ghost use Rattle.kfs_objects.specs.Records.{read_inode};
 ghost use Rattle.kfs_tx.specs.Run.{age_of, Aged, seen, GetFault};
+ghost use Rattle.kfs_judge.specs.Judging.{is_key};
+ghost use Rattle.kfs_core.specs.Clearing.{IsTidy, AreNodesNamed};
 ghost use Rattle.kfs_core.specs.Counted.{weigh, weigh_chunks, charge_in, chunks_in};
 
 use kfs_objects::{Inode, inode_prefix};
 use kfs_tx::Running;
-use kv_base::Value;
+use kv_base::{Pair, Value};
 use kv_device::{Device, DeviceFault};
 use std::alloc::Global;
 
@@ -18,28 +21,43 @@ pub struct Taken {
     pub chunks: u64,
 }
 
-/// The keys and the chunks that a node takes, where its inode reads and isn't too long.
-fn weigh(value: &Value) -> Option<(u64, u64)>
-    ensures keys { IfSome result (λ n. n.0 ≡ weigh (read_inode value.now)) }
-    ensures chunks { IfSome result (λ n. n.1 ≡ weigh_chunks (read_inode value.now)) }
-    ensures fewer { IfSome result (λ n. n.1 ≤ n.0) }
-    ensures most { IfSome result (λ n. n.0 ≤ 258) }
+/// The keys and the chunks that a node takes, where its inode reads.
+fn weigh(value: &Value) -> (u64, u64)
+    requires { IfSome (read_inode value.now) (λ i. i.1 ≤ 2 ^ 20) }
+    ensures keys { result.0 ≡ weigh (read_inode value.now) }
+    ensures chunks { result.1 ≡ weigh_chunks (read_inode value.now) }
+    ensures fewer { result.1 ≤ result.0 }
+    ensures most { result.0 ≤ 258 }
 {
     match Inode::read(value) {
-        None => Some((0, 0)),
+        None => (0, 0),
         Some(it) => {
-            if it.length > 1 << 20 {
-                return None;
-            }
             let chunks = (it.length + 4095) / 4096;
-            Some((2 + chunks, chunks))
+            (2 + chunks, chunks)
         }
     }
 }
 
+/// The same of the object of an inode.
+fn weigh_pair(pair: &Pair) -> (u64, u64)
+    requires { is_key pair.now.key ≡ true → IfSome (read_inode pair.now.value) (λ i. i.1 ≤ 2 ^ 20) }
+    ensures named { is_key pair.now.key ≡ true }
+    ensures keys { result.0 ≡ weigh (read_inode pair.now.value) }
+    ensures chunks { result.1 ≡ weigh_chunks (read_inode pair.now.value) }
+    ensures fewer { result.1 ≤ result.0 }
+    ensures most { result.0 ≤ 258 }
+{
+    let bytes = pair.key.bytes();
+    prove!(!bytes.is_empty());
+    weigh(&pair.value)
+}
+
 /// The charge and the chunks of the nodes that have inodes.
 pub fn count<D: Device>(alloc: Global, run: &mut Running<D>) -> Result<Taken, DeviceFault>
-    requires { age_of run.old < 2 ^ 63 - 2 ^ 39 }
+    requires age { age_of run.old < 2 ^ 63 - 2 ^ 39 }
+    requires tidy { IsTidy (seen run.old.run) }
+    requires few { objects.len (seen run.old.run) ≤ 68544 }
+    ensures named { OnOk result (AreNodesNamed (seen run.new.run)) }
     ensures charge { IfOk result (λ n. n.charge ≡ charge_in (seen run.old.run)) }
     ensures chunks { IfOk result (λ n. n.chunks ≡ chunks_in (seen run.old.run)) }
     ensures same { OnOk result (run.new.run ≡ run.old.run) }
@@ -51,13 +69,9 @@ pub fn count<D: Device>(alloc: Global, run: &mut Running<D>) -> Result<Taken, De
     let mut charge: u64 = 1;
     let mut chunks: u64 = 0;
     for pair in pairs.as_slice() {
-        match weigh(&pair.value) {
-            None => return Err(DeviceFault::Memory),
-            Some((keys, more)) => {
-                charge += keys;
-                chunks += more;
-            }
-        }
+        let (keys, more) = weigh_pair(pair);
+        charge += keys;
+        chunks += more;
     }
     Ok(Taken { charge, chunks })
 }

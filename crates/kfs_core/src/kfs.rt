@@ -6,10 +6,10 @@ ghost use Rattle.kv_device.specs.Asked.{asks_cut, asks_fault};
 ghost use Rattle.kv_device.specs.Machine.{none_open, with_most_cuts, with_most_faults};
 ghost use Rattle.kv_device.specs.Calls.{Ages};
 ghost use Rattle.kfs_objects.specs.Keys.{IsNamed};
-ghost use Rattle.kfs_damages.specs.Damages.{IsClear, HasHead};
+ghost use Rattle.kfs_damages.specs.Damages.{IsClear, HasHead, named_charge, named_chunks};
 ghost use Rattle.kfs_judge.specs.Judging.{heard, room_in};
 ghost use Rattle.kfs_tx.specs.Run.{age_of, Aged, seen, committed};
-ghost use Rattle.kfs_core.specs.Clearing.{Clears, ClearFails, IsFresh, NoOrphans};
+ghost use Rattle.kfs_core.specs.Clearing.{Clears, ClearFails, IsFresh, IsRoomy, IsTidy, NoOrphans};
 ghost use Rattle.kfs_core.specs.Core.{run_in, Stays};
 ghost use Rattle.kfs_core.specs.Counted.{charge_in, chunks_in};
 ghost use Rattle.kfs_core.specs.Flat.{lookup_in, inode_in, inode_at, children_at, place_at};
@@ -62,15 +62,20 @@ fn left_over<D: Device>(alloc: Global, run: &mut Running<D>) -> Result<Taken, De
     requires age { age_of run.old < 2 ^ 63 - 2 ^ 39 - 2 ^ 38 }
     requires fresh { IsFresh run.old.run }
     requires few { objects.len (seen run.old.run) ≤ 68544 }
+    requires tidy { IsTidy (seen run.old.run) }
+    requires room { IsRoomy run.old.run }
     ensures clears { OnOk result (Clears run.old.run run.new.run) }
     ensures none { OnOk result (NoOrphans (seen run.new.run)) }
     ensures charge { IfOk result (λ n. n.charge ≡ charge_in (seen run.new.run)) }
     ensures chunks { IfOk result (λ n. n.chunks ≡ chunks_in (seen run.new.run)) }
+    ensures charged { IfOk result (λ n. n.charge ≤ named_charge (heard (seen run.old.run))) }
+    ensures chunked { IfOk result (λ n. n.chunks ≤ named_chunks (heard (seen run.old.run))) }
     ensures err { IfErr result (λ fault. ClearFails run.old.run fault run.new.run.machine) }
     ensures age { Aged run.old run.new (2 ^ 37) }
 {
     clear(alloc, run)?;
-    count(alloc, run)
+    let taken = count(alloc, run)?;
+    Ok(taken)
 }
 
 /// Begins the first transaction after this super, removes the nodes without a name, and counts the
@@ -80,6 +85,7 @@ fn start<D: Device>(alloc: Global, device: D, head: Super) -> Result<Kfs<D>, (D,
     requires up { (D.machine device).up ≡ true }
     requires idle { (D.machine device).pending ≡ none_open }
     requires room { (D.machine device).room_keys ≤ 68544 }
+    requires clear { IsClear (room_in (D.machine device)) (heard (D.machine device).stable) }
     requires changes { head.changes < 2 ^ 62 }
     requires next { head.next < 2 ^ 62 }
     ensures ok { IfOk result (λ kfs. Starts (D.machine device) head kfs) }
@@ -95,11 +101,8 @@ fn start<D: Device>(alloc: Global, device: D, head: Super) -> Result<Kfs<D>, (D,
             match left_over(alloc, &mut run) {
                 Err(fault) => Err((run.into_device(), host_fault(&fault))),
                 Ok(taken) => {
-                    if taken.charge > keys as u64 {
-                        return Err((run.into_device(), HostFault::NoMem));
-                    }
-                    if taken.chunks > pages as u64 {
-                        return Err((run.into_device(), HostFault::NoMem));
+                    if taken.charge > keys as u64 || taken.chunks > pages as u64 {
+                        unreachable!()
                     }
                     Ok(Kfs {
                         run,
@@ -239,6 +242,7 @@ impl<D: Device> Kfs<D> {
     pub fn into_device(self) -> D
         ensures machine { D.machine result ≡ (run_in self).machine }
         ensures age { D.age result ≡ self.running.device_age }
+        ensures asked { D.asked result ≡ self.running.asked }
     {
         self.run.into_device()
     }

@@ -7,7 +7,7 @@ ghost use Rattle.kv_device.specs.Calls.{Ages};
 ghost use Rattle.kfs_objects.specs.Keys.{super_key};
 ghost use Rattle.kfs_objects.specs.Records.{read_super};
 ghost use Rattle.kfs_tx.specs.Run.{Fallen};
-ghost use Rattle.kfs_core.specs.Starting.{host_fault};
+ghost use Rattle.kfs_core.specs.Starting.{IsOutside, host_fault};
 
 use crate::HostFault;
 use kfs_objects::{Super, super_key};
@@ -19,12 +19,14 @@ const TOO_HIGH: u64 = 1 << 62;
 
 /// What a fault of the device is for a session.
 pub fn host_fault(fault: &DeviceFault) -> HostFault
+    requires { IsOutside fault.now }
     ensures { result ≡ host_fault fault.now }
 {
     match fault {
         DeviceFault::Off => HostFault::Cut,
         DeviceFault::Failed => HostFault::Eio,
-        _ => HostFault::NoMem,
+        DeviceFault::Memory => HostFault::NoMem,
+        _ => unreachable!(),
     }
 }
 

@@ -1,5 +1,5 @@
 -- Where neither a cut nor a fault is planned, a call is answered as it should be, or memory is wanting.
-use Rattle.std.proofs.Common.{ℕ, ◌≡◌, ◌<◌, ◌≤◌, ◌^◌, inl, inr, ap, subst, arith}
+use Rattle.std.proofs.Common.{ℕ, ◌≡◌, ◌<◌, ◌≤◌, ◌^◌, inl, inr, refl, ap, subst, arith}
 use Rattle.kv_base.specs.Counts.{one_more}
 use Rattle.kv_device.specs.Machine.{Machine}
 use Rattle.kfs_path.specs.declared.call.Call.{Call}
@@ -9,7 +9,8 @@ use Rattle.kfs_path.specs.declared.call.Reply.TheVariants as replies
 use Rattle.kfs_model.specs.declared.Line.TheVariants as lines
 use Rattle.kfs_model.specs.declared.Answer.TheVariants as answers
 use Rattle.kfs_model.specs.Tree.{Limits}
-use Rattle.kfs_model.specs.Life.{State, Now, Up, Down, EventAt}
+use Rattle.kfs_model.specs.Life.{State, Now, Up, Down, EventAt, live_after, fallen}
+use Rattle.kfs_model.specs.Step.{step}
 use Rattle.kfs_step_laws.specs.Plain.{PlainAnswer}
 use Rattle.kfs_posix.specs.Answering.{Counts}
 use Rattle.kfs_posix.specs.Book.{limits_of}
@@ -30,11 +31,11 @@ no_fault m new reply none few counts is =
     at_bound m.faults new.faults m.most_faults none.faults few h.0.0 h.0.1
 
 plain_at : (k : Limits) (s t : State) (now : Now) (call : Call) (reply : Reply) → (reply ≡ replies.Down Cut → ⊥) → (reply ≡ replies.Down Eio → ⊥) → EventAt k s now (lines.Call call) (answers.Reply reply) t → PlainAnswer k now (lines.Call call) (answers.Reply reply)
-plain_at k s t (Up live) call reply uncut unfailed (d, free, inl done) = inl (d, free, ap answers.Reply done.0)
+plain_at k s t (Up live) call reply uncut unfailed (d, free, inl done) = (Up (live_after live call (step k d live.world call)), (d, free, inl (ap answers.Reply done.0, refl)))
 plain_at k s t (Up live) call reply uncut unfailed (d, free, inr (Cut, is, armed, left)) = absurd (uncut is)
 plain_at k s t (Up live) call reply uncut unfailed (d, free, inr (Eio, is, armed, left)) = absurd (unfailed is)
-plain_at k s t (Up live) call reply uncut unfailed (d, free, inr (NoMem, is, armed, left)) = inr (ap answers.Reply is)
-plain_at k s t (Down past may) call reply uncut unfailed h = ap answers.Reply h.0
+plain_at k s t (Up live) call reply uncut unfailed (d, free, inr (NoMem, is, armed, left)) = (fallen live call (step k d live.world call), (d, free, inr (ap answers.Reply is, refl)))
+plain_at k s t (Down past may) call reply uncut unfailed h = (Down past may, (ap answers.Reply h.0, refl))
 
 pub calls_plain : CallsFailUnplannedByMemoryAlone
 calls_plain old new call reply goes counts none s shows =

@@ -187,6 +187,7 @@ impl<D: Device> Session<D> {
     pub fn into_device(self) -> D
         ensures machine { D.machine result ≡ self.book.run.machine }
         ensures age { D.age result ≡ self.device_age }
+        ensures asked { D.asked result ≡ self.asked }
     {
         self.kfs.into_device()
     }

@@ -1,5 +1,5 @@
 -- Where nothing is planned, only memory can be wanting.
-use Rattle.std.proofs.Common.{◌≡◌, ◌&&◌, Bool, true, false, IsTrue, inl, inr, refl, sym, ap, subst, [], ◌∷◌}
+use Rattle.std.proofs.Common.{◌≡◌, ◌&&◌, Bool, true, false, IsTrue, inl, inr, refl, sym, ap, subst, [], ◌∷◌, ◌∙◌}
 use Rattle.std.specs.List.{list_all}
 use Rattle.kfs_path.specs.declared.call.Cause.{Cause}
 use Rattle.kfs_path.specs.declared.call.Cause.TheVariants as causes
@@ -9,8 +9,8 @@ use Rattle.kfs_model.specs.declared.Line.TheVariants as lines
 use Rattle.kfs_model.specs.declared.Answer.{Answer}
 use Rattle.kfs_model.specs.declared.Answer.TheVariants as answers
 use Rattle.kfs_model.specs.Tree.{Limits}
-use Rattle.kfs_model.specs.Life.{State, Now, Up, Down, EventAt, is_armed, disarmed, with_now}
-use Rattle.kfs_step_laws.specs.Plain.{is_plain, IsUnarmed, PlainAnswer, NothingFailsUnplanned}
+use Rattle.kfs_model.specs.Life.{State, Now, Up, Down, EventAt, is_armed, disarmed, with_now, up_at}
+use Rattle.kfs_step_laws.specs.Plain.{is_plain, IsUnarmed, GoesPlainly, NothingFailsUnplanned}
 
 both_left : (a b : Bool) → (a && b) ≡ true → a ≡ true
 both_left true b e = refl
@@ -45,43 +45,50 @@ unarmed_after s causes.NoMem now u = record { cut = u.cut; fault = u.fault }
 abbrev down_by : Cause → Answer
 down_by cause = answers.Reply (replies.Down cause)
 
+abbrev state_now : State → Now
+state_now s = s.now
+
+now_after : (s : State) (cause : Cause) (now : Now) → (disarmed s cause now).now ≡ now
+now_after s causes.Cut now = refl
+now_after s causes.Eio now = refl
+now_after s causes.NoMem now = refl
+
 -- one line
-plain_at : (k : Limits) (s new : State) (now : Now) (line : Line) (answer : Answer) → IsUnarmed s → is_plain line ≡ true → EventAt k s now line answer new → PlainAnswer k now line answer × IsUnarmed new
-plain_at k s new (Up live) (lines.Call call) (answers.Reply reply) u p (d, free, inl done) = (inl (d, free, ap answers.Reply done.0), subst IsUnarmed (sym done.1) (unarmed_now s _ u))
-plain_at k s new (Up live) (lines.Call call) (answers.Reply reply) u p (d, free, inr (cause, reply_is, armed, new_is)) = (
-  inr (subst (λ c. answers.Reply reply ≡ down_by c) (only_memory s cause _ u armed) (ap answers.Reply reply_is)),
+pub goes : (k : Limits) (s new : State) (now : Now) (line : Line) (answer : Answer) → IsUnarmed s → is_plain line ≡ true → s.now ≡ now → EventAt k s now line answer new → GoesPlainly k now line answer new.now × IsUnarmed new
+goes k s new (Up live) (lines.Call call) (answers.Reply reply) u p is (d, free, inl done) = ((d, free, inl (ap answers.Reply done.0, ap state_now done.1)), subst IsUnarmed (sym done.1) (unarmed_now s _ u))
+goes k s new (Up live) (lines.Call call) (answers.Reply reply) u p is (d, free, inr (cause, reply_is, armed, new_is)) = (
+  (d, free, inr (subst (λ c. answers.Reply reply ≡ down_by c) (only_memory s cause _ u armed) (ap answers.Reply reply_is), ap state_now new_is ∙ now_after s cause _)),
   subst IsUnarmed (sym new_is) (unarmed_after s cause _ u),
 )
-plain_at k s new (Up live) (lines.Call call) (answers.Mounted n) u p h = absurd h
-plain_at k s new (Up live) lines.Mount (answers.Mounted n) u p h = (inl (ap answers.Mounted h.0), subst IsUnarmed (sym h.1) (unarmed_now s _ u))
-plain_at k s new (Up live) lines.Mount (answers.Reply reply) u p (cause, reply_is, armed, new_is) = (
-  inr (subst (λ c. answers.Reply reply ≡ down_by c) (armed_only s cause u armed) (ap answers.Reply reply_is)),
+goes k s new (Up live) (lines.Call call) (answers.Mounted n) u p is h = absurd h
+goes k s new (Up live) lines.Mount (answers.Mounted n) u p is h = (inl (ap answers.Mounted h.0, ap state_now h.1 ∙ ap (λ m. Up (up_at live.past m)) h.0), subst IsUnarmed (sym h.1) (unarmed_now s _ u))
+goes k s new (Up live) lines.Mount (answers.Reply reply) u p is (cause, reply_is, armed, new_is) = (
+  inr (subst (λ c. answers.Reply reply ≡ down_by c) (armed_only s cause u armed) (ap answers.Reply reply_is), ap state_now new_is ∙ now_after s cause _),
   subst IsUnarmed (sym new_is) (unarmed_after s cause _ u),
 )
-plain_at k s new (Up live) (lines.Call call) (answers.Refused fault) u p h = absurd h
-plain_at k s new (Up live) lines.Mount (answers.Refused fault) u p h = absurd h
-plain_at k s new (Up live) (lines.Cut n how) answer u p h = absurd (cc)
-plain_at k s new (Up live) (lines.Fail kind n) answer u p h = absurd (cc)
-plain_at k s new (Up live) (lines.Format blocks) answer u p h = absurd h
-plain_at k s new (Down past may) (lines.Call call) (answers.Reply reply) u p h = (ap answers.Reply h.0, subst IsUnarmed (sym h.1) u)
-plain_at k s new (Down past may) (lines.Call call) (answers.Mounted n) u p h = absurd h
-plain_at k s new (Down past may) lines.Mount (answers.Mounted n) u p h = (inl (n, h.0, refl), subst IsUnarmed (sym h.1) (unarmed_now s _ u))
-plain_at k s new (Down past may) lines.Mount (answers.Reply reply) u p (cause, reply_is, armed, new_is) = (
-  inr (subst (λ c. answers.Reply reply ≡ down_by c) (armed_only s cause u armed) (ap answers.Reply reply_is)),
+goes k s new (Up live) (lines.Call call) (answers.Refused fault) u p is h = absurd h
+goes k s new (Up live) lines.Mount (answers.Refused fault) u p is h = absurd h
+goes k s new (Up live) (lines.Cut n how) answer u p is h = absurd (cc)
+goes k s new (Up live) (lines.Fail kind n) answer u p is h = absurd (cc)
+goes k s new (Up live) (lines.Format blocks) answer u p is h = absurd h
+goes k s new (Down past may) (lines.Call call) (answers.Reply reply) u p is h = ((ap answers.Reply h.0, ap state_now h.1 ∙ is), subst IsUnarmed (sym h.1) u)
+goes k s new (Down past may) (lines.Call call) (answers.Mounted n) u p is h = absurd h
+goes k s new (Down past may) lines.Mount (answers.Mounted n) u p is h = (inl (n, h.0, refl, ap state_now h.1), subst IsUnarmed (sym h.1) (unarmed_now s _ u))
+goes k s new (Down past may) lines.Mount (answers.Reply reply) u p is (cause, reply_is, armed, new_is) = (
+  inr (subst (λ c. answers.Reply reply ≡ down_by c) (armed_only s cause u armed) (ap answers.Reply reply_is), ap state_now new_is ∙ now_after s cause _),
   subst IsUnarmed (sym new_is) (unarmed_after s cause _ u),
 )
-plain_at k s new (Down past may) (lines.Call call) (answers.Refused fault) u p h = absurd h
-plain_at k s new (Down past may) lines.Mount (answers.Refused fault) u p h = absurd h
-plain_at k s new (Down past may) (lines.Cut n how) answer u p h = absurd (cc)
-plain_at k s new (Down past may) (lines.Fail kind n) answer u p h = absurd (cc)
-plain_at k s new (Down past may) (lines.Format blocks) answer u p h = absurd h
+goes k s new (Down past may) (lines.Call call) (answers.Refused fault) u p is h = absurd h
+goes k s new (Down past may) lines.Mount (answers.Refused fault) u p is h = absurd h
+goes k s new (Down past may) (lines.Cut n how) answer u p is h = absurd (cc)
+goes k s new (Down past may) (lines.Fail kind n) answer u p is h = absurd (cc)
+goes k s new (Down past may) (lines.Format blocks) answer u p is h = absurd h
 
 -- all lines, one after the other
-pub plain_life : NothingFailsUnplanned
-plain_life k old new [] [] u p life = life
-plain_life k old new (l ∷ ls) (x ∷ xs) u p life =
-    let event = life.1 in
-    let e = plain_at k old life.0 old.now l x u (both_left (is_plain l) (list_all is_plain ls) p) event in
-    (life.0, event, e.0, plain_life k life.0 new ls xs e.1 (both_right (is_plain l) (list_all is_plain ls) p) life.2)
-plain_life k old new [] (x ∷ xs) u p life = absurd life
-plain_life k old new (l ∷ ls) [] u p life = absurd life
+pub plainly : NothingFailsUnplanned
+plainly k old new [] [] u p life = ap state_now life
+plainly k old new (l ∷ ls) (x ∷ xs) u p life =
+    let e = goes k old life.0 old.now l x u (both_left (is_plain l) (list_all is_plain ls) p) refl life.1 in
+    (life.0.now, e.0, plainly k life.0 new ls xs e.1 (both_right (is_plain l) (list_all is_plain ls) p) life.2)
+plainly k old new [] (x ∷ xs) u p life = absurd life
+plainly k old new (l ∷ ls) [] u p life = absurd life

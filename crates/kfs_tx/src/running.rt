@@ -247,6 +247,7 @@ impl<D: Device> Running<D> {
     pub fn into_device(self) -> D
         ensures machine { D.machine result ≡ self.run.machine }
         ensures age { D.age result ≡ self.device_age }
+        ensures asked { D.asked result ≡ self.asked }
     {
         self.device
     }

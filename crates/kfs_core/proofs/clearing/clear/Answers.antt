@@ -1,6 +1,8 @@
 use Rattle.std.proofs.Common.{arith}
 use Rattle.std.proofs.lemmas.Result.{err_from_is_err_and}
 use Rattle.kfs_core.proofs.Cleared.{clears_both, clear_fails_after}
+use Rattle.kfs_tx.specs.Run.{seen}
+use Rattle.kfs_core.proofs.Swept.{sweeps_both, tidy_after, roomy_after}
 use Rattle.kfs_core.proofs.clearing.clear.Goals as goal
 
 pub returns-in_err-clear_next-clause-err : goal.returns-in_err-clear_next-clause-err
@@ -17,9 +19,19 @@ loop-turn-preserved g c =
     let then = c.in_ok-clear_next.ensures.age in
     record {
       clears = clears_both c.args.run.now.run c.loop-turn.run.run c.clear_next.new.run.run c.loop-turn.invariant.clears c.in_ok-clear_next.ensures.clears;
+      sweeps = sweeps_both (seen c.args.run.now.run) (seen c.loop-turn.run.run) (seen c.clear_next.new.run.run) c.loop-turn.invariant.sweeps c.in_ok-clear_next.ensures.sweeps;
       few = omega (arith, c.loop-turn.invariant.few, c.in_ok-clear_next.ensures.fewer c.if-not-branch.false);
       age = record {
         device = record { later = omega (arith, first.device.later, then.device.later); bounded = omega (arith, first.device.bounded, then.device.bounded) };
         whole = record { later = omega (arith, first.whole.later, then.whole.later); bounded = omega (arith, first.whole.bounded, then.whole.bounded) };
       };
     }
+
+pub returns-then-not-branch-clause-sweeps : goal.returns-then-not-branch-clause-sweeps
+returns-then-not-branch-clause-sweeps g c = sweeps_both (seen c.args.run.now.run) (seen c.loop-turn.run.run) (seen c.clear_next.new.run.run) c.loop-turn.invariant.sweeps c.in_ok-clear_next.ensures.sweeps
+
+pub clear_next-requires-clause-tidy : goal.clear_next-requires-clause-tidy
+clear_next-requires-clause-tidy g c = tidy_after (seen c.args.run.now.run) (seen c.loop-turn.run.run) c.loop-turn.invariant.sweeps c.requires.tidy
+
+pub clear_next-requires-clause-room : goal.clear_next-requires-clause-room
+clear_next-requires-clause-room g c = roomy_after c.args.run.now.run c.loop-turn.run.run c.loop-turn.invariant.clears c.loop-turn.invariant.sweeps c.requires.room

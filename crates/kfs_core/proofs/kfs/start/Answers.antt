@@ -1,12 +1,18 @@
-use Rattle.std.proofs.Common.{◌∙◌, arith, ap, subst}
+use Rattle.std.proofs.Common.{◌≤◌, ◌∙◌, sym, arith, ap, subst}
 use Rattle.std.specs.FinMap as objects
 use Rattle.kv_device.specs.Objects.{Objects}
-use Rattle.kfs_tx.specs.Run.{Run, seen}
+use Rattle.kfs_tx.specs.Run.{Run, opened, seen}
 use Rattle.kfs_tx.proofs.Opening.{sees_stable}
 use Rattle.kfs_core.specs.Clearing.{Clears}
 use Rattle.kfs_core.specs.Counted.{charge_in, chunks_in}
 use Rattle.kfs_core.proofs.Cleared.{sees_now, now_cleared}
+use Rattle.kfs_damages.specs.Damages.{named_charge, named_chunks}
+use Rattle.kfs_judge.specs.Judging.{heard, room_in}
+use Rattle.kfs_core.specs.Clearing.{IsRoomy, IsTidy}
+use Rattle.kfs_core.proofs.Roomy.{room_of}
+use Rattle.kfs_core.proofs.Tidied.{clear_tidy}
 use Rattle.kfs_core.proofs.kfs.start.Goals as goal
+use Rattle.kfs_core.proofs.kfs.start.Goals.{then-taken-keys-via-then-taken-keys, then-taken-keys-via-else-taken-keys+then-taken-pages}
 
 pub left_over-requires-clause-few : goal.left_over-requires-clause-few
 left_over-requires-clause-few g c =
@@ -31,3 +37,28 @@ returns-else-taken-pages-clause-ok g c =
       charge = c.in-Ok-left_over.ensures.charge ∙ ap charge_in now;
       chunks = c.in-Ok-left_over.ensures.chunks ∙ ap chunks_in now;
     }
+
+pub left_over-requires-clause-tidy : goal.left_over-requires-clause-tidy
+left_over-requires-clause-tidy g c =
+    let m = g.D.Device.machine c.args.device in
+    let sound = g.met.D.Device.sound c.args.device in
+    let now = ap seen c.in-Ok.ensures.ok ∙ sees_stable m c.requires.up c.requires.idle in
+    let stored = sound.keys in
+    subst IsTidy (sym now) (clear_tidy (room_in m) m.stable (omega (arith, stored, c.requires.room)) c.requires.clear)
+
+pub unreachable-requires : goal.unreachable-requires
+unreachable-requires g c =
+    let m = g.D.Device.machine c.args.device in
+    let now = ap seen c.in-Ok.ensures.ok ∙ sees_stable m c.requires.up c.requires.idle in
+    let charge = subst (λ o. c.in-Ok-left_over.taken.charge ≤ named_charge (heard o)) now c.in-Ok-left_over.ensures.charged in
+    let chunks = subst (λ o. c.in-Ok-left_over.taken.chunks ≤ named_chunks (heard o)) now c.in-Ok-left_over.ensures.chunked in
+    elim c.then-taken-keys.branch [
+      | then-taken-keys-via-then-taken-keys w ↦ omega (arith, w.if-taken-keys.true, charge, c.requires.clear.room.charge, c.limits-keys.ensures.keys)
+      | then-taken-keys-via-else-taken-keys+then-taken-pages w ↦ omega (arith, w.if-taken-pages.true, chunks, c.requires.clear.room.chunks, c.limits-keys.ensures.pages)
+    ]
+
+pub left_over-requires-clause-room : goal.left_over-requires-clause-room
+left_over-requires-clause-room g c =
+    let m = g.D.Device.machine c.args.device in
+    let sound = g.met.D.Device.sound c.args.device in
+    subst IsRoomy (sym c.in-Ok.ensures.ok) (room_of (opened m c.args.head).machine (seen (opened m c.args.head)) m.stable (sees_stable m c.requires.up c.requires.idle) sound.keys sound.pages)

@@ -11,22 +11,22 @@ no_length (x ∷ xs) e = absurd (omega arith)
 
 pub returns-in_default-clause-lists : goal.returns-in_default-clause-lists
 returns-in_default-clause-lists g c =
-    leads_end (seen c.args.run.now.run) c.loop-turn.list c.loop-turn.todo.items
-    (no_length c.loop-turn.todo.items (omega (arith, c.loop-turn.todo.ok.0, c.in_default.ensures.cases.0))) c.loop-turn.invariant.leads
+    leads_end (seen c.args.run.now.run) c.places.list c.places.todo.items
+    (no_length c.places.todo.items (omega (arith, c.places.todo.ok.0, c.in_default.ensures.cases.0))) c.places.invariant.leads
 
-pub loop-turn-preserved : goal.loop-turn-preserved
-loop-turn-preserved g c =
-    let first = c.loop-turn.invariant.age in
+pub places-preserved : goal.places-preserved
+places-preserved g c =
+    let first = c.places.invariant.age in
     let then = c.in_ok-visit.ensures.age in
     let next = c.in-Some.next in
     let rest = c.pop.new.self.items in
-    let is = c.loop-turn.invariant.same in
+    let is = c.places.invariant.same in
     let below = subst (λ (r : Run). map at_of c.visit.new.todo.items ≡ map at_of rest ++ reverse (right_below (seen r) (at_of next))) is c.in_ok-visit.ensures.below in
     let told = subst (λ (r : Run). c.in_ok-visit.field-0 ≡ item_at next.path (inode_in (seen r) next.node)) is c.in_ok-visit.ensures.told in
     record {
       same = c.in_ok-visit.ensures.same ∙ is;
-      leads = leads_on (seen c.args.run.now.run) c.loop-turn.list c.push-in-loop-turn.new.self c.loop-turn.todo.items rest c.visit.new.todo.items next c.in_ok-visit.field-0
-          c.in-Some.ensures.items below told c.in_ok-push-2.ensures.ok c.loop-turn.invariant.leads;
+      leads = leads_on (seen c.args.run.now.run) c.places.list c.push-in-places.new.self c.places.todo.items rest c.visit.new.todo.items next c.in_ok-visit.field-0
+          c.in-Some.ensures.items below told c.in_ok-push-2.ensures.ok c.places.invariant.leads;
       age = record {
         device = record { later = omega (arith, first.device.later, then.device.later); bounded = omega (arith, first.device.bounded, then.device.bounded) };
         whole = record { later = omega (arith, first.whole.later, then.whole.later); bounded = omega (arith, first.whole.bounded, then.whole.bounded) };
