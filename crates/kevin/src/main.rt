@@ -1,6 +1,7 @@
 //! Runs scripts of file calls.
 #![tactic(auto)]
 
+ghost use Rattle.kfs_runner.specs.Complete.{EndsComplete};
 ghost use Rattle.kfs_runner.specs.Ending.{Ends, LeavesAlone, side, sides};
 
 use kfs_runner::{
@@ -29,26 +30,26 @@ pub fn kevin<H: Shelf, S: Source, O: Sink>(
     ensures alone { LeavesAlone words.now.items
         (sides (side (H.held shelf.old) (H.faults shelf.old)) (side (S.left script.old) (S.faults script.old)))
         (sides (side (H.held shelf.new) (H.faults shelf.new)) (side (S.left script.new) (S.faults script.new))) }
+    ensures complete { EndsComplete words.now.items
+        (sides (side (H.held shelf.old) (H.faults shelf.old)) (side (S.left script.old) (S.faults script.old)))
+        (sides (side (H.held shelf.new) (H.faults shelf.new)) (side (S.left script.new) (S.faults script.new)))
+        (side (O.got out.old) (O.faults out.old)) (side (O.got out.new) (O.faults out.new)) result }
 {
     let ending = run_words(alloc, words, shelf, script);
     write_ending(out, &ending)
 }
 
-// The most times that the room for a word is doubled.
-const MOST_DOUBLINGS: u32 = 32;
-
 // The bytes of the word at a place behind the program's name, where there is one.
 fn word_at(rt: &(impl Env + AllocGlobal), place: usize) -> Result<Option<Text>, Memory> {
     let mut room: usize = 4_096;
-    for _ in 0..MOST_DOUBLINGS {
+    'rooms: loop {
         let mut piece = vec![in rt.alloc(); 0u8; room]?;
         match rt.arg(place, piece.as_mut_slice()) {
             Ok(n) => return Ok(Some(Text::new(rt.alloc(), &piece[..n])?)),
             Err(FillError::NotPresent) => return Ok(None),
-            Err(FillError::TooLong) => room = room.saturating_mul(2),
+            Err(FillError::TooLong) => room = piece.len().saturating_mul(2),
         }
     }
-    Err(Memory)
 }
 
 // The words behind the program's name.

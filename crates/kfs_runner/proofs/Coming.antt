@@ -34,7 +34,7 @@ due_too_long : (bytes : List ℕ) → script_limit < length bytes → due Run by
 unfolding due
 due_too_long bytes long = let much = less script_limit (length bytes) long in rw much refl
 
-due_script : (bytes : List ℕ) → length bytes ≤ script_limit → due Run bytes ≡ due_by (script_of bytes)
+pub due_script : (bytes : List ℕ) → length bytes ≤ script_limit → due Run bytes ≡ due_by (script_of bytes)
 unfolding due
 due_script bytes short = let few = no_less script_limit (length bytes) short in rw few refl
 

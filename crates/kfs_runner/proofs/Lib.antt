@@ -1,6 +1,7 @@
 pub mod Streams
 pub mod Coming
 pub mod LinesMore
+pub mod Asking
 pub mod Lives
 pub mod LineCount
 pub mod SeatLaws
@@ -8,3 +9,4 @@ pub mod LoadRuns
 pub mod ServedLines
 pub mod Undamaged
 pub mod Waking
+pub mod Completing

@@ -1,6 +1,6 @@
 -- What a life tells by its lines and answers: whether a cut is planned at its end, and how far its numbers rose.
-use Rattle.std.proofs.Common.{◌≡◌, ◌≤◌, ◌<◌, ◌+◌, ◌-◌, ◌^◌, ◌∷◌, ◌∙◌, ◌⊎◌, inl, inr, [], ℕ, zero, suc, List, Option, Some, None, Result, Ok, Err, Bool, true, false, not, cond, length, drop, refl, sym, ap, subst, arith}
-use Rattle.std.specs.Prelude.{◌&&◌, ◌||◌, IsTrue, All}
+use Rattle.std.proofs.Common.{◌≡◌, ◌≤◌, ◌<◌, ◌+◌, ◌-◌, ◌^◌, ◌∷◌, ◌∙◌, inl, inr, [], ℕ, zero, suc, List, Option, Some, None, Result, Ok, Err, Bool, true, false, not, cond, length, drop, refl, sym, ap, subst, arith}
+use Rattle.std.specs.Prelude.{◌&&◌, ◌||◌, All}
 use Rattle.std.specs.List.{list_any, slice_get}
 use Rattle.std.specs.Option.{unwrap_or}
 use Rattle.std.proofs.Math.Bool.{and-true, and-false, or-true, or-false}
@@ -21,7 +21,7 @@ use Rattle.kfs_model.specs.declared.Answer.TheVariants as answers
 use Rattle.kfs_model.specs.Tree.{Tree, Limits, root_alone, named}
 use Rattle.kfs_model.specs.Step
 use Rattle.kfs_model.specs.Step.{step}
-use Rattle.kfs_model.specs.Life.{State, Live, Now, Up, Down, Past, tree_at, with_tree, ended_at, up_at, past_after, live_with, live_after, fallen, with_now, disarmed, AnyOf, Event, EventAt, Life, newborn}
+use Rattle.kfs_model.specs.Life.{State, Live, Now, Up, Down, Past, tree_at, up_at, past_after, live_after, fallen, disarmed, AnyOf, EventAt, Life, newborn}
 use Rattle.kfs_model.specs.Change.{weight, is_boundary}
 use Rattle.kfs_laws.proofs.Outcomes
 use Rattle.kfs_laws.proofs.Sound.{sound, next_to}

@@ -34,8 +34,8 @@ use Rattle.kfs_posix.specs.Mounting.{limits_in, Mounts}
 use Rattle.kfs_runner.specs.Causes.{cause_of_host}
 use Rattle.kfs_runner.specs.Numbers.{line_age}
 use Rattle.kfs_runner.specs.Stores.{WakeCause, NotWoken}
-use Rattle.kfs_runner.specs.Strikes.{Strikes, strikes_of, struck, is_cut, is_failure}
-use Rattle.kfs_runner.specs.Seats.{Seated, Mounted, Bare, AreArmed, StandsAt, Stores, IsDown, ShowsBare, Shown, IsNew, shows_seat, seat_limits, seat_machine, seat_strikes, seat_age, device_age, most_of, SeatGoes}
+use Rattle.kfs_runner.specs.Strikes.{strikes_of, struck, is_cut, is_failure}
+use Rattle.kfs_runner.specs.Seats.{Seated, Mounted, Bare, AreArmed, StandsAt, Stores, IsDown, ShowsBare, Shown, IsNew, shows_seat, seat_limits, seat_machine, seat_age, device_age, most_of, SeatGoes}
 
 -- ---- what is shown is stored
 

@@ -1,9 +1,8 @@
 -- What was done on a device that rests, and on a flash.
-use Rattle.std.proofs.Common.{◌≡◌, ◌≤◌, ◌<◌, ◌+◌, ◌-◌, ◌*◌, ◌/◌, ◌^◌, ◌++◌, ◌∷◌, ◌∙◌, [], ℕ, List, cond, Bool, true, false, length, take, refl, sym, ap, subst, arith}
+use Rattle.std.proofs.Common.{◌≡◌, ◌≤◌, ◌<◌, ◌+◌, ◌^◌, ◌++◌, ◌∷◌, ◌∙◌, [], ℕ, List, cond, Bool, true, false, length, refl, sym, ap, subst, arith}
 use Rattle.std.specs.List.{count_by}
 use Rattle.std.proofs.lemmas.List.Sums.{sum_by-cons}
-use Rattle.kv_nand.specs.Flash.{Flash, Image}
-use Rattle.kv_device.specs.Objects.{Objects}
+use Rattle.kv_nand.specs.Flash.{Flash}
 use Rattle.kv_device.specs.Machine.{Machine, down}
 use Rattle.kfs_path.specs.declared.call.Reply.TheVariants as replies
 use Rattle.kfs_model.specs.declared.Line.{Line}
@@ -14,12 +13,10 @@ use Rattle.std.proofs.lemmas.Bool.Decides.{nat_tests}
 use Rattle.kfs_model.specs.declared.Answer.{Answer}
 use Rattle.kfs_model.specs.declared.Answer.TheVariants as answers
 use Rattle.kfs_model.specs.Tree.{Limits}
-use Rattle.kfs_model.specs.Life.{State, tree_at}
+use Rattle.kfs_model.specs.Life.{State}
 use Rattle.kfs_script.specs.AnswerText.{text_of, texts_of}
-use Rattle.kfs_posix.specs.Showing.{IsSaved, one_if}
+use Rattle.kfs_posix.specs.Showing.{one_if}
 use Rattle.kfs_posix.specs.Mounting.{limits_in}
-use Rattle.kssd_layout.specs.Numbers.{max_keys_in, max_pages_in}
-use Rattle.kssd_image.specs.Stages.{objects_in}
 use Rattle.kssd_image.specs.Whole.{age_in}
 use Rattle.kssd_machine.specs.Machines.{resting}
 use Rattle.kssd_mount.proofs.Taking.{taken}
@@ -27,8 +24,8 @@ use Rattle.kfs_runner.specs.Flashes.{CanRest, new_on}
 use Rattle.kfs_runner.specs.Numbers.{limits_of}
 use Rattle.kfs_runner.specs.Lines.{AnsweredFrom, OverflowsFrom}
 use Rattle.kfs_runner.specs.Strikes.{Strikes, strikes_of, struck_by, is_cut, is_failure}
-use Rattle.kfs_runner.specs.Seats.{Seated, Stores, AreArmed, shows_seat, seat_limits, seat_machine, seat_strikes}
-use Rattle.kfs_runner.specs.Serving.{formats, AreDone, IsServed, IsAnswered, Overflows, StandsFor, output_limit}
+use Rattle.kfs_runner.specs.Seats.{Seated, Stores, shows_seat, seat_limits, seat_machine, seat_strikes}
+use Rattle.kfs_runner.specs.Serving.{formats, AreDone, IsServed, Overflows, StandsFor, output_limit}
 use Rattle.kfs_runner.proofs.SeatLaws.{seat_stores, seat_room}
 use Rattle.kfs_runner.proofs.LinesMore.{one_counted}
 use Rattle.kfs_runner.proofs.Lives.{armed_by, ends_low}

@@ -1,6 +1,5 @@
 -- What a flash is without a device on it.
-use Rattle.std.specs.Prelude.{◌≤◌, ◌≡◌, ◌+◌, ◌^◌, true}
-use Rattle.std.specs.FinMap as objects
+use Rattle.std.specs.Prelude.{◌≤◌}
 use Rattle.std.proofs.Props.{props}
 use Rattle.kv_nand.specs.Flash.{Flash}
 use Rattle.kv_nand.specs.declared.fault.MountFault.{MountFault}

@@ -10,6 +10,8 @@ pub mod Strikes
 pub mod Stores
 pub mod Flashes
 pub mod Seats
+pub mod Asks
 pub mod Causes
 pub mod Counts
 pub mod Memory
+pub mod Complete

@@ -1,6 +1,6 @@
 -- What a device leaves that could not be woken.
 use Rattle.std.specs.Prelude.{◌≡◌}
-use Rattle.kv_device.specs.Machine.{Machine, restarted}
+use Rattle.kv_device.specs.Machine.{Machine}
 use Rattle.kfs_core.specs.declared.fault.HostFault.{HostFault}
 use Rattle.kfs_core.specs.declared.fault.HostFault.TheVariants.{Damaged, Cut, Eio, NoMem}
 use Rattle.kfs_core.specs.Starting.{HostCause}

@@ -1,12 +1,16 @@
 // What a device on flash rests on while no session is up: the flash.
-ghost use Rattle.std.specs.Prelude.{◌≡◌, ◌≤◌};
+ghost use Rattle.std.specs.Prelude.{◌≡◌, ◌≤◌, true, IfOk, IfErr};
+ghost use Rattle.kv_device.specs.Machine.{down, none_open};
 ghost use Rattle.kssd_image.specs.Whole.{age_in};
 ghost use Rattle.kssd_machine.specs.Machines.{resting};
+ghost use Rattle.kssd_engine.specs.Plans.{asked_by};
 ghost use Rattle.kfs_runner.specs.Flashes.{CanRest, CanRest-prop, host_fault};
 
 use crate::store::Store;
+use kfs_cache::Cached;
 use kfs_core::HostFault;
 use kssd_engine::{Ssd, operation_of, outcome_of};
+use kv_device::Device;
 use kv_nand::{MountFault, PlannedNand};
 use std::alloc::Global;
 
@@ -16,6 +20,9 @@ pub struct Resting<N: PlannedNand> {
     nand: N,
     ghost whole: { CanRest (N.flash nand) } by { CanRest-prop (N.flash nand) },
 }
+
+// How many values a device keeps in memory.
+const CACHED_VALUES: usize = 256;
 
 // Why a device isn't mounted, as a mount of a session tells it.
 fn host_fault(fault: &MountFault) -> HostFault
@@ -29,36 +36,62 @@ fn host_fault(fault: &MountFault) -> HostFault
     }
 }
 
+/// A device that is up, with values kept in memory. For want of memory what it rests on comes back.
+pub fn with_cache<N: PlannedNand + Drop>(
+    alloc: Global,
+    device: Ssd<N>,
+) -> Result<Cached<Ssd<N>>, Resting<N>>
+    requires up { (⟦<Ssd<N> as Device>⟧.machine device).up ≡ true }
+    requires idle { (⟦<Ssd<N> as Device>⟧.machine device).pending ≡ none_open }
+    ensures ok { IfOk result (λ cached. ⟦<Cached<Ssd<N>> as Device>⟧.machine cached ≡ ⟦<Ssd<N> as Device>⟧.machine device) }
+    ensures age { IfOk result (λ cached. ⟦<Cached<Ssd<N>> as Device>⟧.age cached ≡ ⟦<Ssd<N> as Device>⟧.age device) }
+    ensures err { IfErr result (λ store. ⟦<Resting<N> as Store>⟧.machine store ≡ down (⟦<Ssd<N> as Device>⟧.machine device)) }
+    ensures age_left { IfErr result (λ store. ⟦<Resting<N> as Store>⟧.age store ≤ ⟦<Ssd<N> as Device>⟧.age device) }
+{
+    match Cached::new(alloc, device, CACHED_VALUES) {
+        Ok(cached) => Ok(cached),
+        Err((device, _)) => Err(Resting {
+            nand: device.into_nand(),
+        }),
+    }
+}
+
 impl<N: PlannedNand + Drop> Resting<N> {
     /// The flash.
     pub fn into_nand(self) -> N
         ensures rests { resting (N.flash result) ≡ ⟦<Resting<N> as Store>⟧.machine self }
         ensures age { age_in (N.flash result).image ≡ ⟦<Resting<N> as Store>⟧.age self }
         ensures whole { CanRest (N.flash result) }
+        ensures asked { asked_by (N.planned result) 0 ≡ ⟦<Resting<N> as Store>⟧.asked self }
     {
         self.nand
     }
 }
 
 impl<N: PlannedNand + Drop> Store for Resting<N> {
-    type Device = Ssd<N>;
+    type Device = Cached<Ssd<N>>;
 
     ghost machine = { λ store. resting (N.flash store.nand) };
 
     ghost age = { λ store. age_in (N.flash store.nand).image };
 
-    fn wake(self, alloc: Global) -> Result<Ssd<N>, (Resting<N>, HostFault)> {
+    ghost asked = { λ store. asked_by (N.planned store.nand) 0 };
+
+    fn wake(self, alloc: Global) -> Result<Cached<Ssd<N>>, (Resting<N>, HostFault)> {
         let mut nand = self.nand;
         nand.power_on();
         match Ssd::mount(alloc, nand) {
-            Ok(device) => Ok(device),
+            Ok(device) => match with_cache(alloc, device) {
+                Ok(cached) => Ok(cached),
+                Err(store) => Err((store, HostFault::NoMem)),
+            },
             Err((nand, fault)) => Err((Resting { nand }, host_fault(&fault))),
         }
     }
 
-    fn rest(device: Ssd<N>) -> Resting<N> {
+    fn rest(device: Cached<Ssd<N>>) -> Resting<N> {
         Resting {
-            nand: device.into_nand(),
+            nand: device.into_device().into_nand(),
         }
     }
 

@@ -10,9 +10,10 @@ ghost use Rattle.kfs_runner.specs.Numbers.{limits_of};
 ghost use Rattle.kfs_runner.specs.Serving.{IsUnplanned};
 ghost use Rattle.kfs_runner.specs.Strikes.{strikes_of};
 
-use crate::flash::Resting;
+use crate::flash::{Resting, with_cache};
 use crate::host::Host;
 use crate::seat::Seat;
+use kfs_cache::Cached;
 use kfs_core::format;
 use kssd_engine::Ssd;
 use kv_base::Memory;
@@ -36,6 +37,19 @@ fn new_device<N: PlannedNand + Drop>(alloc: Global, nand: N) -> Result<Ssd<N>, M
     }
 }
 
+// An empty device on a flash, with its cache.
+fn new_cached<N: PlannedNand + Drop>(alloc: Global, nand: N) -> Result<Cached<Ssd<N>>, Memory>
+    requires { (256 ≤ (N.flash nand).blocks) × ((N.flash nand).blocks ≤ 2048) }
+    ensures machine { IfOk result (λ device. ⟦<Cached<Ssd<N>> as Device>⟧.machine device ≡ new_on (N.flash nand)) }
+    ensures age { IfOk result (λ device. ⟦<Cached<Ssd<N>> as Device>⟧.age device ≤ 2 ^ 21) }
+{
+    let device = new_device(alloc, nand)?;
+    match with_cache(alloc, device) {
+        Ok(cached) => Ok(cached),
+        Err(_) => Err(Memory),
+    }
+}
+
 /// A new file system on a flash, mounted.
 pub fn format_flash<N: PlannedNand + Drop>(
     alloc: Global,
@@ -49,7 +63,7 @@ pub fn format_flash<N: PlannedNand + Drop>(
     ensures device_age { IfOk result (λ seat. ⟦<Seat<Resting<N>> as Host>⟧.device_age seat ≤ 2 ^ 60) }
     ensures strikes { IfOk result (λ seat. ⟦<Seat<Resting<N>> as Host>⟧.strikes seat ≡ strikes_of (new_on (N.flash nand))) }
 {
-    let mut device = new_device(alloc, nand)?;
+    let mut device = new_cached(alloc, nand)?;
     match format(alloc, &mut device) {
         Ok(()) => Seat::begin(alloc, device),
         Err(_) => Err(Memory),

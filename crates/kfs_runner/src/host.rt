@@ -1,8 +1,10 @@
 // What the lines of a script are done on.
 ghost use Rattle.std.specs.Prelude.{◌≡◌, ◌≤◌, ◌<◌, ◌+◌, ◌-◌, ◌^◌, ℕ, false, max};
+ghost use Rattle.kv_device.specs.Asked.{Asked};
 ghost use Rattle.kfs_model.specs.Tree.{Limits};
 ghost use Rattle.kfs_model.specs.Life.{State, Event};
 ghost use Rattle.kfs_script.specs.Script.{IsLine, is_format};
+ghost use Rattle.kfs_runner.specs.Asks.{LineAsks};
 ghost use Rattle.kfs_runner.specs.Strikes.{Strikes, struck};
 ghost use Rattle.kfs_runner.specs.Numbers.{line_age};
 
@@ -26,6 +28,9 @@ pub trait Host: Drop {
     /// How often power was cut and an operation failed.
     ghost strikes: { Self → Strikes };
 
+    /// What its device was asked for.
+    ghost asked: { Self → Asked };
+
     /// Does a line, and answers it.
     fn answer(self, alloc: Global, line: &Line) -> (Self, Answer)
         requires line { IsLine line.now }
@@ -37,5 +42,6 @@ pub trait Host: Drop {
         ensures goes_on { (s : State) → shows self s → (t : State) × Event (limits self) s line.now result.1 t × shows result.0 t
             × (limits result.0 ≡ limits self) × (age result.0 ≤ max (age self) (2 ^ 62) + line_age) }
         ensures device_age { device_age result.0 ≤ device_age self + line_age }
-        ensures strikes { strikes result.0 ≡ struck (strikes self) result.1 };
+        ensures strikes { strikes result.0 ≡ struck (strikes self) result.1 }
+        ensures asks { LineAsks line.now result.1 (asked self) (asked result.0) };
 }

@@ -1,6 +1,7 @@
 //! Runs scripts of file calls and makes loads, from words and a stream of lines to a stream of answers.
 #![tactic(auto)]
 
+mod complete;
 mod ending;
 mod file_shelf;
 mod flash;
@@ -20,6 +21,7 @@ mod store;
 mod words;
 mod writing;
 
+pub use complete::{each_end_is_complete, lines_fail_unplanned_by_memory_alone};
 pub use ending::{Ending, NO_MEMORY};
 pub use file_shelf::FileShelf;
 pub use flash::Resting;

@@ -3,6 +3,7 @@ ghost use Rattle.std.specs.Prelude.{◌≡◌, ◌≤◌, ◌++◌, ◌^◌, Lis
 ghost use Rattle.kfs_script.specs.AnswerText.{texts_of};
 ghost use Rattle.kfs_model.specs.Life.{State, newborn};
 ghost use Rattle.kfs_script.specs.Script.{IsLine, is_format};
+ghost use Rattle.kfs_runner.specs.Asks.{IsLastPlanned};
 ghost use Rattle.kfs_runner.specs.Lines.{AnsweredFrom, OverflowsFrom};
 ghost use Rattle.kfs_runner.specs.declared.lines.Unanswered.TheVariants.{TooLong, Memory as NoMemory};
 
@@ -46,6 +47,7 @@ pub fn answer_all<H: Host>(
     requires room { (H.limits host).keys ≤ 68544 }
     requires short { length text.old ≤ most }
     ensures ok { IfOk result (λ left. AnsweredFrom (H.limits host) lines.now most text.old text.new (H.shows left) (H.strikes host) (H.strikes left)) }
+    ensures planned { IfOk result (λ left. IsLastPlanned lines.now (H.asked left)) }
     ensures limits { IfOk result (λ left. H.limits left ≡ H.limits host) }
     ensures device_age { IfOk result (λ left. H.device_age left < 2 ^ 62) }
     ensures long { IfErr result (λ e. e ≡ TooLong → OverflowsFrom (H.limits host) lines.now most text.old text.new) }

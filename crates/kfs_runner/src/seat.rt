@@ -39,6 +39,8 @@ fn cause_of(fault: &HostFault) -> Cause
 impl<S: Store> Seat<S> {
     ghost use Rattle.kfs_runner.specs.Seats.{Shown, SeatGoes, IsNew, seated, seat_limits, seat_age, device_age, shows_seat, seat_machine, seat_strikes};
     ghost use Rattle.kfs_runner.specs.Strikes.{strikes_of};
+    ghost use Rattle.kfs_runner.specs.Asks.{SamePlans, LineAsks, seat_asked};
+    ghost use Rattle.kv_device.specs.Asked.{asks_cut, asks_fault};
     ghost use Rattle.kv_device.specs.Machine.{down, restarted};
     ghost use Rattle.kfs_posix.specs.Mounting.{limits_in};
 
@@ -64,6 +66,7 @@ impl<S: Store> Seat<S> {
     pub fn into_store(self) -> S
         ensures machine { down (S.machine result) ≡ down (seat_machine (seated S.machine S.age self)) }
         ensures age { S.age result ≤ device_age (seated S.machine S.age self) }
+        ensures asked { SamePlans (seat_asked S.asked self) (S.asked result) }
     {
         match self {
             Seat::Mounted(session) => S::rest(session.into_device()),
@@ -104,7 +107,8 @@ impl<S: Store> Seat<S> {
         requires shown { Shown (seated S.machine S.age self) }
         requires room { (seat_limits (seated S.machine S.age self)).keys ≤ 68544 }
         requires age { seat_age (seated S.machine S.age self) < 2 ^ 63 - 2 ^ 40 }
-        ensures { SeatGoes (seated S.machine S.age self) (lines.Call call.now) result.1 (seated S.machine S.age result.0) }
+        ensures goes { SeatGoes (seated S.machine S.age self) (lines.Call call.now) result.1 (seated S.machine S.age result.0) }
+        ensures asks { LineAsks (lines.Call call.now) result.1 (seat_asked S.asked self) (seat_asked S.asked result.0) }
     {
         match self {
             Seat::Mounted(mut session) => {
@@ -119,7 +123,8 @@ impl<S: Store> Seat<S> {
         requires n { 1 ≤ n }
         requires how { how ≤ 3 }
         requires age { seat_age (seated S.machine S.age self) < 2 ^ 63 - 2 ^ 40 }
-        ensures { SeatGoes (seated S.machine S.age self) (lines.Cut n how) (answers.Reply replies.Done) (seated S.machine S.age result) }
+        ensures goes { SeatGoes (seated S.machine S.age self) (lines.Cut n how) (answers.Reply replies.Done) (seated S.machine S.age result) }
+        ensures asks { seat_asked S.asked result ≡ asks_cut (seat_asked S.asked self) n how }
     {
         match self {
             Seat::Mounted(mut session) => {
@@ -137,7 +142,8 @@ impl<S: Store> Seat<S> {
         requires n { 1 ≤ n }
         requires kind { kind ≤ 2 }
         requires age { seat_age (seated S.machine S.age self) < 2 ^ 63 - 2 ^ 40 }
-        ensures { SeatGoes (seated S.machine S.age self) (lines.Fail kind n) (answers.Reply replies.Done) (seated S.machine S.age result) }
+        ensures goes { SeatGoes (seated S.machine S.age self) (lines.Fail kind n) (answers.Reply replies.Done) (seated S.machine S.age result) }
+        ensures asks { seat_asked S.asked result ≡ asks_fault (seat_asked S.asked self) kind n }
     {
         match self {
             Seat::Mounted(mut session) => {
@@ -154,6 +160,7 @@ impl<S: Store> Seat<S> {
 
 impl<S: Store> Host for Seat<S> {
     ghost use Rattle.kfs_runner.specs.Seats.{seated, seat_limits, seat_age, device_age, seat_strikes, shows_seat};
+    ghost use Rattle.kfs_runner.specs.Asks.{seat_asked};
 
     ghost shows = { λ seat. shows_seat (seated S.machine S.age seat) };
 
@@ -164,6 +171,8 @@ impl<S: Store> Host for Seat<S> {
     ghost device_age = { λ seat. device_age (seated S.machine S.age seat) };
 
     ghost strikes = { λ seat. seat_strikes (seated S.machine S.age seat) };
+
+    ghost asked = { λ seat. seat_asked S.asked seat };
 
     fn answer(self, alloc: Global, line: &Line) -> (Self, Answer) {
         match line {

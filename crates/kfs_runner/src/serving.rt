@@ -2,7 +2,9 @@
 ghost use Rattle.std.specs.Prelude.{◌≡◌, ◌≤◌, ◌<◌, ◌^◌, true, false, length, drop, All, IfOk, IfErr};
 ghost use Rattle.kfs_model.specs.Life.{newborn};
 ghost use Rattle.kfs_script.specs.Script.{IsLine, is_format};
+ghost use Rattle.kssd_engine.specs.Plans.{asked_by};
 ghost use Rattle.kfs_runner.specs.Numbers.{limits_of};
+ghost use Rattle.kfs_runner.specs.Asks.{IsLastPlanned};
 ghost use Rattle.kfs_runner.specs.Serving.{formats, IsUnplanned, AreDone, IsServed, StopsServing};
 
 use crate::flash_seat::format_flash;
@@ -52,6 +54,7 @@ pub fn serve<N: PlannedNand + Drop>(
     requires few { length script.now ≤ 2 ^ 23 }
     requires unplanned { IsUnplanned (N.flash nand) }
     ensures ok { IfOk result (λ served. IsServed (drop 1 script.now) served.text (N.flash nand) (N.flash served.nand)) }
+    ensures planned { IfOk result (λ served. IsLastPlanned (drop 1 script.now) (asked_by (N.planned served.nand) 0)) }
     ensures stops { IfErr result (StopsServing (limits_of (N.flash nand).blocks) (drop 1 script.now)) }
 {
     let lines = script.lines();
@@ -86,6 +89,7 @@ fn answer_lines<S: Store>(
     requires formats { All (λ line. is_format line ≡ false) lines.now }
     ensures ok { IfOk result (λ r. AreDone (⟦<Seat<S> as Host>⟧.limits seat) lines.now r.1 (⟦<Seat<S> as Host>⟧.strikes seat) (S.machine r.0)) }
     ensures age { IfOk result (λ r. S.age r.0 < 2 ^ 62) }
+    ensures planned { IfOk result (λ r. IsLastPlanned lines.now (S.asked r.0)) }
     ensures stops { IfErr result (StopsServing (⟦<Seat<S> as Host>⟧.limits seat) lines.now) }
 {
     let mut text = Text::new(alloc, b"")?;

@@ -1,8 +1,10 @@
 // What a session's device rests on while no session is up.
 ghost use Rattle.std.specs.Prelude.{◌≡◌, ◌≤◌, ◌<◌, ◌+◌, ◌^◌, ℕ, IfOk, IfErr};
 ghost use Rattle.kv_base.specs.Counts.{one_more};
+ghost use Rattle.kv_device.specs.Asked.{Asked, asks_cut, asks_fault};
 ghost use Rattle.kv_device.specs.Machine.{Machine, down, restarted, with_most_cuts, with_most_faults};
 ghost use Rattle.kv_device.specs.Calls.{IsSound};
+ghost use Rattle.kfs_runner.specs.Asks.{SamePlans};
 ghost use Rattle.kfs_runner.specs.Stores.{NotWoken};
 
 use kfs_core::HostFault;
@@ -21,6 +23,9 @@ pub trait Store: Drop {
     /// The greatest number that stands in it.
     ghost age: { Self → ℕ };
 
+    /// What is planned for it.
+    ghost asked: { Self → Asked };
+
     /// Turns the power on, and goes on from what is stored.
     ///
     /// # Errors
@@ -36,13 +41,15 @@ pub trait Store: Drop {
     /// Takes back the device of a session. What was pending is lost.
     fn rest(device: Self::Device) -> Self
         ensures machine { machine result ≡ down (Self.Device.machine device) }
-        ensures age { age result ≤ Self.Device.age device };
+        ensures age { age result ≤ Self.Device.age device }
+        ensures asked { SamePlans (Self.Device.asked device) (asked result) };
 
     /// Power is cut in the n-th operation from now, as `PlannedDevice::plan_cut` says.
     fn plan_cut(&mut self, n: u32, how: u8)
         requires n { 1 ≤ n }
         requires how { how ≤ 3 }
         ensures planned { machine self.new ≡ with_most_cuts (machine self.old) }
+        ensures asked { asked self.new ≡ asks_cut (asked self.old) n how }
         ensures age { age self.new ≡ age self.old };
 
     /// The n-th operation from now of that kind fails, as `PlannedDevice::plan_fail` says.
@@ -52,17 +59,20 @@ pub trait Store: Drop {
         ensures planned { machine self.new ≡ with_most_faults (machine self.old) (machine self.new).most_faults }
         ensures fewest { (machine self.old).faults ≤ (machine self.new).most_faults }
         ensures most { (machine self.new).most_faults ≤ one_more (machine self.old).faults }
+        ensures asked { asked self.new ≡ asks_fault (asked self.old) kind n }
         ensures age { age self.new ≡ age self.old };
 }
 
 impl Store for MapDevice {
-    ghost use Rattle.kv_device.specs.MapDevice.{machine_of};
+    ghost use Rattle.kv_device.specs.MapDevice.{machine_of, asked_of};
 
     type Device = MapDevice;
 
     ghost machine = { λ device. down (machine_of device) };
 
     ghost age = { λ _. 0 };
+
+    ghost asked = { asked_of };
 
     fn wake(self, _: Global) -> Result<MapDevice, (MapDevice, HostFault)> {
         let mut device = self;

@@ -1,6 +1,7 @@
 use Rattle.std.proofs.Common.{◌<◌, ◌++◌, ◌∷◌, ◌∙◌, ◌≤◌, ◌+◌, [], ℕ, List, length, ap, subst, arith}
 use Rattle.kfs_model.specs.Tree.{Limits}
 use Rattle.kfs_model.specs.Life.{Event}
+use Rattle.kfs_runner.proofs.Asking.{planned_at}
 use Rattle.kfs_runner.proofs.LinesMore.{life_at, texts_more, struck_more}
 use Rattle.kfs_runner.proofs.lines.answer_all.Goals as goal
 
@@ -23,6 +24,7 @@ loop-line-preserved g c =
       device = omega (arith, c.answer-next.ensures.device_age, before.device);
       strikes = struck_more _ _ _ before.given answer before.strikes c.answer-next.ensures.strikes;
       short = omega (arith, ap length c.bytes.ensures);
+      planned = planned_at c.args.lines.now c.loop-line.line-index line answer _ _ below c.line-item.is c.answer-next.ensures.asks;
     }
 
 pub returns-then-bytes-most-clause-long : goal.returns-then-bytes-most-clause-long

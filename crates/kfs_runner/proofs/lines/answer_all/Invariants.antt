@@ -4,6 +4,7 @@ use Rattle.kfs_model.specs.Life.{State, Life, newborn}
 use Rattle.kfs_script.specs.AnswerText.{texts_of}
 use Rattle.kfs_runner.specs.Numbers.{line_age}
 use Rattle.kfs_runner.specs.Strikes.{struck_by}
+use Rattle.kfs_runner.specs.Asks.{IsLastPlanned}
 use Rattle.kfs_runner.proofs.lines.answer_all.Given as goal
 
 abbrev pub invariant-loop-line : goal.invariant-loop-line
@@ -18,4 +19,5 @@ invariant-loop-line g l = record {
   device : g.H.Host.device_age l.host ≤ 2 ^ 60 + line_age * l.line-index;
   strikes : g.H.Host.strikes l.host ≡ struck_by (g.H.Host.strikes l.initial.host) given;
   short : length l.text ≤ l.most;
+  planned : IsLastPlanned (take l.line-index l.lines) (g.H.Host.asked l.host);
 }

@@ -1,4 +1,4 @@
-use Rattle.std.proofs.Common.{◌≡◌, ◌≤◌, true, refl, sym, ap, subst}
+use Rattle.std.proofs.Common.{refl, sym, subst}
 use Rattle.kv_nand.specs.Flash.{Flash}
 use Rattle.kv_nand.specs.Calls.{powered_on}
 use Rattle.kssd_image.specs.Whole.{Sound}

@@ -1,5 +1,5 @@
 use Rattle.std.proofs.Common.{◌≡◌, ◌≤◌, ◌+◌, ◌^◌, ◌∙◌, ap, arith}
-use Rattle.kv_device.specs.Machine.{Machine, restarted}
+use Rattle.kv_device.specs.Machine.{restarted}
 use Rattle.kfs_runner.specs.Numbers.{line_age}
 use Rattle.kfs_runner.specs.Seats.{seated, seat_machine, device_age}
 use Rattle.kfs_runner.proofs.SeatLaws.{mount_goes, mount_falls, wake_falls}

@@ -6,8 +6,8 @@ use Rattle.kfs_runner.specs.Seats.{Seated, Bare, SeatGoes, seated, seat_age}
 use Rattle.kfs_runner.proofs.SeatLaws.{bare_cut}
 use Rattle.kfs_runner.proofs.seat.Seat.plan_cut.Goals as goal
 
-pub returns-in-Bare : goal.returns-in-Bare
-returns-in-Bare g c =
+pub returns-in-Bare-clause-goes : goal.returns-in-Bare-clause-goes
+returns-in-Bare-clause-goes g c =
     let machine = g.S.Store.machine in
     let age = g.S.Store.age in
     let old = c.in-Bare.store in
