@@ -1,5 +1,6 @@
 #!/usr/bin/env python3
-"""Lets allocations of the proved program fail in turn, over some rows of scripts in crates/kevin_rows.
+"""Lets allocations of the proved program fail in turn, over some rows of scripts in crates/kevin_rows and the script of
+the tables in crates/kevin_cuts.
 
 usage: examples/want_of_memory.py [PROGRAM]     (crates/kevin/out/kevin, which `rt run` in crates/kevin leaves)
 
@@ -31,6 +32,9 @@ ROWS = (
     "a file is cut short, grown and emptied",
     "errors while all descriptors are open",
 )
+
+# The script of the tables, whose answers no row tells.
+TABLE = "files are made, rewritten, renamed and removed"
 
 # How many allocations of a format fail in a row, and how many of the lines behind it.
 FORMAT_TRIES, LINE_TRIES = 4, 80
@@ -88,6 +92,13 @@ def rows_of(folder):
         assert name == told, f"{name} is told as {told}"
         rows[name] = list(lines_of(lines)), answer
     return [rows[name] for name in ROWS]
+
+
+def table_of(folder):
+    """The lines of the script of the tables."""
+    scripts = open(folder + "/stdin").read()[len("-- ") :].split("\n-- ")
+    name, words, *lines = next(s for s in scripts if s.startswith(TABLE + "\n")).splitlines()
+    return lines
 
 
 def some_of(first, end, most):
@@ -162,10 +173,13 @@ def main():
 
     runs, wrong = 0, 0
     _, _, formatted = run(["@format 256"], 0)
+    scripts = [table_of(here + "/crates/kevin_cuts")]
     for lines, want in rows_of(here + "/crates/kevin_rows"):
         status, text, _ = run(lines, 0)
         if status != 0 or text.splitlines() != want:
             sys.exit(f"the row doesn't answer as it should: {' ; '.join(lines)}")
+        scripts.append(lines)
+    for lines in scripts:
         lines = lines + ["@mount", "@mount"]
         _, text, count = run(lines, 0)
         want = by_line(lines, text.splitlines())
