@@ -2,14 +2,17 @@
 """Lets allocations of the proved program fail in turn, over some rows of scripts in crates/kevin_rows and the script of
 the tables in crates/kevin_cuts.
 
-usage: examples/want_of_memory.py [PROGRAM]     (crates/kevin/out/kevin, which `rt run` in crates/kevin leaves)
+usage: examples/want_of_memory.py [--each] [PROGRAM]     (crates/kevin/out/kevin, which `rt run` in crates/kevin leaves)
 
 Two mounts are added to each row. Each run must end with status 7 and no text, or answer as wanted up to one line
 that answers `down nomem`; the lines behind it answer `off` up to the next mount, and that mount goes on from no
 change before the last sync that answered. A run has the 34 MB of its flash, so of the allocations that a
-format takes FORMAT_TRIES are tried, and of those behind it LINE_TRIES, evenly spread; all ends in a few minutes. The
-status is 1 where a run does otherwise. It wants cc, since the allocator is told by a library that is loaded before the C library.
+format takes FORMAT_TRIES are tried, and of those behind it LINE_TRIES, evenly spread; all ends in a few minutes. With
+--each the script of the tables is run alone, and each of its allocations behind the format fails in turn, some 35,000 of
+them. The status is 1 where a run does otherwise. It wants cc, since the allocator is told by a library that is loaded
+before the C library.
 """
+import concurrent.futures
 import os
 import re
 import shutil
@@ -154,7 +157,9 @@ def fault_of(lines, want, kept, status, text):
 
 def main():
     here = os.path.dirname(os.path.dirname(os.path.abspath(__file__)))
-    program = os.path.abspath(sys.argv[1] if len(sys.argv) > 1 else here + "/crates/kevin/out/kevin")
+    words = [word for word in sys.argv[1:] if word != "--each"]
+    is_each = len(words) < len(sys.argv) - 1
+    program = os.path.abspath(words[0] if words else here + "/crates/kevin/out/kevin")
     folder = tempfile.mkdtemp()
     with open(folder + "/failing.c", "w") as source:
         source.write(FAILING)
@@ -163,18 +168,20 @@ def main():
 
     def run(lines, n):
         done = subprocess.run(
-            [program, "run", folder + "/image"],
+            [program, "run", f"{folder}/image{n}"],
             input="".join(line + "\n" for line in lines),
             capture_output=True,
             text=True,
             env={"LD_PRELOAD": library, "FAIL_ALLOCATION": str(n)},
         )
+        if os.path.exists(f"{folder}/image{n}"):
+            os.remove(f"{folder}/image{n}")
         return done.returncode, done.stdout, int(done.stderr)
 
     runs, wrong = 0, 0
     _, _, formatted = run(["@format 256"], 0)
     scripts = [table_of(here + "/crates/kevin_cuts")]
-    for lines, want in rows_of(here + "/crates/kevin_rows"):
+    for lines, want in [] if is_each else rows_of(here + "/crates/kevin_rows"):
         status, text, _ = run(lines, 0)
         if status != 0 or text.splitlines() != want:
             sys.exit(f"the row doesn't answer as it should: {' ; '.join(lines)}")
@@ -184,8 +191,11 @@ def main():
         _, text, count = run(lines, 0)
         want = by_line(lines, text.splitlines())
         kept = kept_by(lines, want, run)
-        for n in [*some_of(1, formatted, FORMAT_TRIES), *some_of(formatted, count + 1, LINE_TRIES)]:
-            status, text, _ = run(lines, n)
+        most = count if is_each else LINE_TRIES
+        tries = [*some_of(1, formatted, FORMAT_TRIES), *some_of(formatted, count + 1, most)]
+        with concurrent.futures.ThreadPoolExecutor(os.cpu_count()) as pool:
+            answers = list(pool.map(lambda n: run(lines, n), tries))
+        for n, (status, text, _) in zip(tries, answers):
             fault = fault_of(lines, want, kept, status, text)
             runs += 1
             if fault:
