@@ -4,10 +4,11 @@ ghost use Rattle.kssd_tx.specs.Lists.{AreLists};
 ghost use Rattle.kssd_image.specs.Stages.{objects_in};
 ghost use Rattle.kssd_values.specs.Blocks.{free_room, has_target, free_count};
 ghost use Rattle.kssd_reclaim.specs.Reclaim.{copies_of, AllCopied};
-ghost use Rattle.kssd_index.specs.Standing.{has_frozen};
-ghost use Rattle.kssd_root.specs.Costs.{most_place_cost};
+ghost use Rattle.kssd_index.specs.Standing.{has_frozen, index_root};
+ghost use Rattle.kssd_index.specs.Costs.{zero_runs};
+ghost use Rattle.kssd_root.specs.Costs.{most_place_cost, usual_place_cost};
 ghost use Rattle.kssd_mounted.specs.Standing.{Stands, mounted_age, machine_at, Leaves};
-ghost use Rattle.kssd_collect.specs.Costs.{most_finish_cost, most_collect_cost, most_collect_reads};
+ghost use Rattle.kssd_collect.specs.Costs.{most_finish_cost, most_collect_cost, most_collect_reads, usual_finish_cost, usual_collect_cost};
 ghost use Rattle.kssd_collect.specs.Collecting.{IsCollected, IsCopied, IsEmptied, has_place_for, IsUsedTheSame, FreesBlock, EndsInFew};
 
 use crate::copying::copy_some;
@@ -42,6 +43,7 @@ pub fn collect<N: Nand>(
     ensures leaves { Leaves (N.flash nand.old) (mounted_age mounted.old + 2 ^ 10) (N.flash nand.new) }
     ensures works { OnOk result (Works (N.flash nand.old) (N.flash nand.new) (most_collect_cost (N.flash nand.old).blocks) most_collect_reads) }
     ensures stops { IfErr result (λ fault. Stops (N.flash nand.old) fault (N.flash nand.new) (most_collect_cost (N.flash nand.old).blocks) most_collect_reads) }
+    ensures usual { zero_runs mounted.old.index ≤ 3 → (N.flash nand.new).ops ≤ (N.flash nand.old).ops + usual_collect_cost }
 {
     let reclaim = copy_whole(alloc, nand, mounted)?;
     finish(alloc, nand, mounted, reclaim)?;
@@ -71,6 +73,7 @@ fn copy_whole<N: Nand>(
     ensures leaves { Leaves (N.flash nand.old) (mounted_age mounted.old) (N.flash nand.new) }
     ensures works { OnOk result (Works (N.flash nand.old) (N.flash nand.new) 34 68) }
     ensures stops { IfErr result (λ fault. Stops (N.flash nand.old) fault (N.flash nand.new) 34 68) }
+    ensures index { OnOk result (mounted.new.index ≡ mounted.old.index) }
 {
     look_at(&mounted.changes);
     let mut reclaim = take_up(alloc, nand, mounted)?;
@@ -81,7 +84,7 @@ fn copy_whole<N: Nand>(
 }
 
 /// Copies visible and pending pages of a block with at most so many operations, and gives how many are
-/// left where all are copied; 34 are enough for a block.
+/// left where all are copied; a block takes at most 33.
 pub fn copy_block<N: Nand>(
     alloc: Global,
     nand: &mut N,
@@ -93,7 +96,7 @@ pub fn copy_block<N: Nand>(
     ensures collected { OnOk result (IsCollected reclaim.new mounted.new (N.flash nand.new)) }
     ensures all { IfOk result (λ left. IfSome left (λ _. AllCopied reclaim.new mounted.new.values)) }
     ensures few { IfOk result (λ left. unwrap_or left 0 ≤ operations) }
-    ensures enough { IfOk result (λ left. left ≡ None → operations ≤ 33) }
+    ensures most { IfOk result (λ left. operations - unwrap_or left 0 ≤ 33) }
     ensures none { OnOk result (has_target mounted.new.values ≡ false → free_count mounted.new.values ≡ free_count mounted.old.values) }
     ensures machine { OnOk result (machine_at (N.flash nand.new) mounted.new ≡ machine_at (N.flash nand.old) mounted.old) }
     ensures index { mounted.new.index ≡ mounted.old.index }
@@ -132,8 +135,10 @@ pub fn finish<N: Nand>(
     ensures none_stops { copies_of reclaim ≡ [] → IfErr result (λ fault. Stops (N.flash nand.old) fault (N.flash nand.new) 1 0) }
     ensures placed_stops { has_place_for reclaim mounted.old ≡ true → IfErr result (λ fault. Stops (N.flash nand.old) fault (N.flash nand.new) 4 0) }
     ensures index { copies_of reclaim ≡ [] → OnOk result (mounted.new.index ≡ mounted.old.index) }
+    ensures root { has_frozen mounted.old.index ≡ false → OnOk result (index_root mounted.new.index ≡ index_root mounted.old.index) }
     ensures unfrozen { has_frozen mounted.old.index ≡ false → OnOk result (EndsInFew (N.flash nand.old) (N.flash nand.new)) }
     ensures unfrozen_stops { has_frozen mounted.old.index ≡ false → IfErr result (λ fault. Stops (N.flash nand.old) fault (N.flash nand.new) 4 (2 ^ 64)) }
+    ensures usual { zero_runs mounted.old.index ≤ 3 → (N.flash nand.new).ops ≤ (N.flash nand.old).ops + usual_finish_cost }
 {
     name_copies(alloc, nand, mounted, &reclaim)?;
     erase_block(nand, mounted, reclaim)?;
@@ -162,8 +167,10 @@ fn name_copies<N: Nand>(
     ensures none_stops { copies_of reclaim.now ≡ [] → IfErr result (λ fault. Stops (N.flash nand.old) fault (N.flash nand.new) 0 0) }
     ensures placed_stops { has_place_for reclaim.now mounted.old ≡ true → IfErr result (λ fault. Stops (N.flash nand.old) fault (N.flash nand.new) 3 0) }
     ensures index { copies_of reclaim.now ≡ [] → OnOk result (mounted.new.index ≡ mounted.old.index) }
+    ensures root { has_frozen mounted.old.index ≡ false → OnOk result (index_root mounted.new.index ≡ index_root mounted.old.index) }
     ensures unfrozen { has_frozen mounted.old.index ≡ false → OnOk result (Works (N.flash nand.old) (N.flash nand.new) 3 (2 ^ 64)) }
     ensures unfrozen_stops { has_frozen mounted.old.index ≡ false → IfErr result (λ fault. Stops (N.flash nand.old) fault (N.flash nand.new) 3 (2 ^ 64)) }
+    ensures usual { zero_runs mounted.old.index ≤ 3 → (N.flash nand.new).ops ≤ (N.flash nand.old).ops + usual_place_cost + 3 }
 {
     let moves = ordered_moves(alloc, reclaim, &mounted.values)?;
     log_entries(alloc, nand, &mut mounted.index, &moves)?;

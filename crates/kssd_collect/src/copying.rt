@@ -26,7 +26,7 @@ pub fn copy_some<N: Nand>(
     ensures copies { OnOk result (HasCopies reclaim.new values.new (N.flash nand.new).image) }
     ensures all { IfOk result (λ left. IfSome left (λ _. AllCopied reclaim.new values.new)) }
     ensures few { IfOk result (λ left. unwrap_or left 0 ≤ operations) }
-    ensures enough { IfOk result (λ left. left ≡ None → operations ≤ 33) }
+    ensures most { IfOk result (λ left. operations - unwrap_or left 0 ≤ 33) }
     ensures stands { OnOk result (StandsIn values.new (N.flash nand.new)) }
     ensures marks { OnOk result (SameMarks values.old values.new) }
     ensures none { OnOk result (has_target values.new ≡ false → free_count values.new ≡ free_count values.old) }

@@ -12,10 +12,10 @@ ghost use Rattle.kssd_image.specs.Whole.{pages_named, age_in};
 ghost use Rattle.kssd_values.specs.Places.{IsValueBlock};
 ghost use Rattle.kssd_values.specs.Blocks.{device_of};
 ghost use Rattle.kssd_reclaim.specs.Reclaim.{block_of, copies_of, moves_of};
-ghost use Rattle.kssd_index.specs.Standing.{IsIndex, has_frozen, index_age, index_ring};
+ghost use Rattle.kssd_index.specs.Standing.{IsIndex, has_frozen, index_age, index_ring, index_root};
 ghost use Rattle.kssd_root.specs.Mapping.{with_entries, IsKept, IsBeforeOrAfter};
-ghost use Rattle.kssd_index.specs.Costs.{has_place_in, group_cost};
-ghost use Rattle.kssd_root.specs.Costs.{most_place_cost};
+ghost use Rattle.kssd_index.specs.Costs.{has_place_in, group_cost, zero_runs};
+ghost use Rattle.kssd_root.specs.Costs.{most_place_cost, usual_place_cost};
 ghost use Rattle.kssd_collect.specs.Placing.{IsStill};
 
 use kssd_entry::Entries;
@@ -78,6 +78,7 @@ fn find_place<N: Nand>(
     ensures place { OnOk result (has_place_in index.new entries.now ≡ true) }
     ensures still { has_place_in index.old entries.now ≡ true → IsStill index.old (N.flash nand.old) index.new (N.flash nand.new) × IfErr result (λ _. ⊥) }
     ensures kept { IsKept (N.flash nand.old).blocks (N.flash nand.old).image (N.flash nand.new).image }
+    ensures root { has_frozen index.old ≡ false → OnOk result (index_root index.new ≡ index_root index.old) }
     ensures aged { age_in (N.flash nand.new).image ≤ index_age index.new }
     ensures ages { index_age index.new ≤ index_age index.old + 2 ^ 8 }
     ensures works { OnOk result (Works (N.flash nand.old) (N.flash nand.new) (most_place_cost (N.flash nand.old).blocks) (2 ^ 64)) }
@@ -85,6 +86,7 @@ fn find_place<N: Nand>(
     ensures fresh { has_place_in index.old entries.now ≡ false → OnOk result (room_of (index_ring index.new) ≡ 248) }
     ensures unfrozen { has_frozen index.old ≡ false → OnOk result (Works (N.flash nand.old) (N.flash nand.new) 2 (2 ^ 64)) }
     ensures unfrozen_stops { has_frozen index.old ≡ false → IfErr result (λ fault. Stops (N.flash nand.old) fault (N.flash nand.new) 2 (2 ^ 64)) }
+    ensures usual { zero_runs index.old ≤ 3 → (N.flash nand.new).ops ≤ (N.flash nand.old).ops + usual_place_cost }
 {
     if index.has_place(entries) {
         return Ok(());
@@ -109,6 +111,7 @@ pub fn log_entries<N: Nand>(
     ensures stands { OnOk result (IsIndex index.new (N.flash nand.new).blocks (N.flash nand.new).image) }
     ensures shown { OnOk result (shown_in (N.flash nand.new).image ≡ with_entries (shown_in (N.flash nand.old).image) entries.now) }
     ensures kept { IsBeforeOrAfter (N.flash nand.old).blocks (N.flash nand.old).image entries.now (N.flash nand.new).image }
+    ensures root { has_frozen index.old ≡ false → OnOk result (index_root index.new ≡ index_root index.old) }
     ensures aged { age_in (N.flash nand.new).image ≤ index_age index.new }
     ensures ages { index_age index.new ≤ index_age index.old + 2 ^ 9 }
     ensures works { OnOk result (Works (N.flash nand.old) (N.flash nand.new) (most_place_cost (N.flash nand.old).blocks + 264) (2 ^ 64)) }
@@ -118,6 +121,7 @@ pub fn log_entries<N: Nand>(
     ensures placed_stops { has_place_in index.old entries.now ≡ true → IfErr result (λ fault. Stops (N.flash nand.old) fault (N.flash nand.new) (group_cost index.old entries.now) 0) }
     ensures unfrozen { has_frozen index.old ≡ false → pages_of entries.now ≤ 1 → OnOk result (Works (N.flash nand.old) (N.flash nand.new) 3 (2 ^ 64)) }
     ensures unfrozen_stops { has_frozen index.old ≡ false → pages_of entries.now ≤ 1 → IfErr result (λ fault. Stops (N.flash nand.old) fault (N.flash nand.new) 3 (2 ^ 64)) }
+    ensures usual { zero_runs index.old ≤ 3 → pages_of entries.now ≤ 1 → (N.flash nand.new).ops ≤ (N.flash nand.old).ops + usual_place_cost + 3 }
 {
     if entries.len() == 0 {
         return Ok(());

@@ -1,6 +1,6 @@
 -- A group that is put over the visible entries, after place was made for it.
 use Rattle.std.proofs.Common.{◌≡◌, ◌∙◌, ℕ, ◌+◌, ◌-◌, ◌*◌, ◌/◌, ◌%◌, ◌≤◌, ◌^◌, inl, inr, true, List, length, Result, Ok, Err, sym, ap, subst, arith, nat_le}
-use Rattle.std.specs.Prelude.{IfErr}
+use Rattle.std.specs.Prelude.{IfErr, OnOk}
 use Rattle.std.proofs.lemmas.Bool.{and_parts, leb-true}
 use Rattle.kv_nand.specs.declared.fault.FlashFault.{FlashFault}
 use Rattle.kv_nand.specs.Flash.{Flash, Image}
@@ -44,3 +44,8 @@ pub stops_then : (a b c : Flash) (r : Result (Unit {0}) FlashFault) (place group
 stops_then a b c (Ok u) place group works few h = tt
 stops_then a b c (Err fault) place group works few h =
     stops_within a c fault (place + group) (2 ^ 64 + 0) (place + 264) (2 ^ 64) (works_then_stops a b c fault place (2 ^ 64) group 0 works h) (omega arith) (omega arith)
+
+-- whatever it answers, it does no more operations than its cost
+pub group_within : (b c : Flash) (r : Result (Unit {0}) FlashFault) (group : ℕ) → OnOk r (Works b c group 0) → IfErr r (λ fault. Stops b fault c group 0) → c.ops ≤ b.ops + group
+group_within b c (Ok u) group works stops = works.counts.ops_at_most
+group_within b c (Err fault) group works stops = stops.counts.ops_at_most

@@ -6,8 +6,9 @@ ghost use Rattle.kssd_image.specs.Stages.{shown_in};
 ghost use Rattle.kssd_image.specs.Whole.{age_in};
 ghost use Rattle.kssd_frames.specs.Logging.{shown_after, IsRoomAfter};
 ghost use Rattle.kssd_index.specs.Standing.{IsIndex, index_age};
+ghost use Rattle.kssd_index.specs.Costs.{has_place_in, group_cost, zero_runs};
 ghost use Rattle.kssd_root.specs.Mapping.{IsBeforeOrAfter};
-ghost use Rattle.kssd_commit.specs.Ending.{most_end_cost};
+ghost use Rattle.kssd_commit.specs.Ending.{most_end_cost, usual_end_cost};
 
 use kssd_entry::Entries;
 use kssd_index::Index;
@@ -33,6 +34,8 @@ pub fn add_group<N: Nand>(
     ensures ages { index_age index.new ≤ index_age index.old + 2 ^ 10 }
     ensures works { OnOk result (Works (N.flash nand.old) (N.flash nand.new) (most_end_cost (N.flash nand.old).blocks) (2 ^ 64)) }
     ensures stops { IfErr result (λ fault. Stops (N.flash nand.old) fault (N.flash nand.new) (most_end_cost (N.flash nand.old).blocks) (2 ^ 64)) }
+    ensures placed { has_place_in index.old entries.now ≡ true → (N.flash nand.new).ops ≤ (N.flash nand.old).ops + group_cost index.old entries.now }
+    ensures usual { zero_runs index.old ≤ 3 → (N.flash nand.new).ops ≤ (N.flash nand.old).ops + usual_end_cost }
 {
     if index.has_place(entries) {
         return index.append(alloc, nand, entries);

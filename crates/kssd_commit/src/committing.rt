@@ -1,5 +1,5 @@
 // A transaction's changes become visible.
-ghost use Rattle.std.specs.Prelude.{◌≡◌, ◌≤◌, ◌+◌, ◌^◌, None, length, OnOk, IfOk, IfErr};
+ghost use Rattle.std.specs.Prelude.{◌≡◌, ◌≤◌, ◌+◌, ◌^◌, true, None, length, OnOk, IfOk, IfErr};
 ghost use Rattle.kv_device.specs.Calls.{EndDone, EndFault};
 ghost use Rattle.kssd_machine.specs.Faults.{device_fault};
 ghost use Rattle.kssd_machine.specs.Machines.{resting};
@@ -9,7 +9,8 @@ ghost use Rattle.kssd_values.specs.declared.mark.Mark.TheVariants as marks;
 ghost use Rattle.kssd_tx.specs.Lists.{changes_of, with_list, IsChangeList};
 ghost use Rattle.kssd_tx.specs.Refusals.{tx_refusal};
 ghost use Rattle.kssd_mounted.specs.Standing.{Stands, Leaves, mounted_age, machine_at};
-ghost use Rattle.kssd_commit.specs.Ending.{IsEndWithin};
+ghost use Rattle.kssd_commit.specs.Ending.{IsEndWithin, usual_end_cost};
+ghost use Rattle.kssd_index.specs.Costs.{has_place_in, group_cost, zero_runs};
 ghost use Rattle.kssd_commit.specs.Judging.{IsJudged, HasRoomFor};
 ghost use Rattle.kssd_mounted.specs.Marking.{MayMark};
 
@@ -44,6 +45,8 @@ pub fn commit<N: Nand>(
     ensures ages { mounted_age mounted.new ≤ mounted_age mounted.old + 2 ^ 10 }
     ensures leaves { Leaves (N.flash nand.old) (mounted_age mounted.old + 2 ^ 10) (N.flash nand.new) }
     ensures within { IsEndWithin (N.flash nand.old) (N.flash nand.new) }
+    ensures placed { has_place_in mounted.old.index (changes_of mounted.old.changes tx.0) ≡ true → (N.flash nand.new).ops ≤ (N.flash nand.old).ops + group_cost mounted.old.index (changes_of mounted.old.changes tx.0) }
+    ensures usual { zero_runs mounted.old.index ≤ 3 → (N.flash nand.new).ops ≤ (N.flash nand.old).ops + usual_end_cost }
 {
     let entries = take_changes(alloc, &mut mounted.changes, tx)?;
     add_group(alloc, nand, &mut mounted.index, &entries)?;

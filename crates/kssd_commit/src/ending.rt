@@ -1,10 +1,11 @@
 // The end of a transaction.
-ghost use Rattle.std.specs.Prelude.{◌≡◌, ◌≤◌, ◌+◌, ◌^◌, [], false, Some, None, OnOk, IfErr};
+ghost use Rattle.std.specs.Prelude.{◌≡◌, ◌≤◌, ◌+◌, ◌^◌, [], true, false, Some, None, OnOk, IfErr};
 ghost use Rattle.kv_device.specs.Calls.{EndDone, EndFault};
-ghost use Rattle.kssd_tx.specs.Lists.{list_of, with_list};
+ghost use Rattle.kssd_tx.specs.Lists.{list_of, changes_of, with_list};
 ghost use Rattle.kssd_tx.specs.Refusals.{tx_refusal};
+ghost use Rattle.kssd_index.specs.Costs.{has_place_in, group_cost, zero_runs};
 ghost use Rattle.kssd_mounted.specs.Standing.{Stands, Leaves, mounted_age, machine_at, machine_after, takes_down};
-ghost use Rattle.kssd_commit.specs.Ending.{IsUntouched, IsEndWithin};
+ghost use Rattle.kssd_commit.specs.Ending.{IsUntouched, IsEndWithin, usual_end_cost};
 
 use crate::committing::commit;
 use crate::judging::judge;
@@ -36,6 +37,8 @@ pub fn end<N: Nand>(
     ensures within { IsEndWithin (N.flash nand.old) (N.flash nand.new) }
     ensures idle { list_of mounted.old.changes tx.0 ≡ Some [] → IsUntouched (N.flash nand.old) (N.flash nand.new) }
     ensures untouched { IfErr result (λ fault. takes_down fault ≡ false → IsUntouched (N.flash nand.old) (N.flash nand.new)) }
+    ensures placed { has_place_in mounted.old.index (changes_of mounted.old.changes tx.0) ≡ true → (N.flash nand.new).ops ≤ (N.flash nand.old).ops + group_cost mounted.old.index (changes_of mounted.old.changes tx.0) }
+    ensures usual { zero_runs mounted.old.index ≤ 3 → (N.flash nand.new).ops ≤ (N.flash nand.old).ops + usual_end_cost }
 {
     if !mounted.changes.is_open(tx) {
         return Err(DeviceFault::NoTx);

@@ -1,5 +1,6 @@
 -- A job after some of its steps.
 use mir.Val.{bool_byte}
+use Rattle.std.specs.Prelude.{IsTrue}
 use Rattle.std.proofs.Common.{◌≡◌, ◌∙◌, ℕ, ◌+◌, ◌-◌, ◌/◌, ◌<◌, ◌≤◌, ◌^◌, Bool, true, false, cond, List, refl, ap, arith, inl, inr}
 use Rattle.std.proofs.Math.Logic.{∥∥₁_elim, ∥∥₁_map}
 use Rattle.std.specs.Coded.{le_prop}
@@ -188,3 +189,18 @@ within_stops most left a b c fault sound some h stops =
         reads_at_least = both.counts.reads_at_least;
       };
     }
+
+-- ---- no more than the steps that are left
+
+tells_more : (wrote : Bool) (now new : Job) (b c : Flash) → (IsTrue wrote → steps_done new ≡ steps_done now + 1) → CountsStep now b new c → steps_done now + bool_byte wrote ≤ steps_done new
+tells_more true now new b c told counts = let one = told refl in omega arith
+tells_more false now new b c told counts = elim counts [ inl p ↦ let is = p.0 in omega arith | inr p ↦ let is = p.0 in omega arith ]
+
+pub spent_step : (most left : ℕ) (wrote : Bool) (old now new : Job) (b c : Flash) → (most - left) + steps_done old ≤ steps_done now → (IsTrue wrote → steps_done new ≡ steps_done now + 1) → CountsStep now b new c → (most - (left - bool_byte wrote)) + steps_done old ≤ steps_done new
+spent_step most left wrote old now new b c spent told counts = let more = tells_more wrote now new b c told counts in omega arith
+
+pub spent_few : (most left : ℕ) (old now : Job) (a b : Flash) → GoesOn old a now b → CanStepJob now b.blocks b.image → (most - left) + steps_done old ≤ steps_done now → most - left ≤ steps_most old - steps_done old
+spent_few most left old now a b goes can spent =
+    let few = (some_left now b.blocks b.image can).0 in
+    let same = same_most old now goes.same in
+    omega arith

@@ -27,8 +27,8 @@ impl Job {
         Ok(job.into_run())
     }
 
-    /// Does steps with at most so many operations, and answers how many are left: none, unless the run
-    /// is written. Nothing changes but in the blocks of the job.
+    /// Does steps with at most so many operations, and no more than are left, and answers how many
+    /// operations are left: none, unless the run is written. Nothing changes but in the blocks of the job.
     pub fn go_on<N: Nand>(
         &mut self,
         alloc: Global,
@@ -39,6 +39,7 @@ impl Job {
         ensures job { OnOk result (GoesOn self.old (N.flash nand.old) self.new (N.flash nand.new)) }
         ensures end { IfOk result (λ left. job_done self.new ≡ false → left ≡ 0) }
         ensures left { IfOk result (λ left. left ≤ operations) }
+        ensures bounded { IfOk result (λ left. operations - left ≤ steps_most self.old - steps_done self.old) }
         ensures outside { (page : ℕ) → has_block (job_blocks self.old) (page / 32) ≡ false → (N.flash nand.new).image page ≡ (N.flash nand.old).image page }
         ensures works { IfOk result (λ left. Works (N.flash nand.old) (N.flash nand.new) (operations - left) (2 ^ 64)) }
         ensures exact { IfOk result (λ left. (N.flash nand.new).ops ≡ ops_more (N.flash nand.old) (operations - left)) }

@@ -1,4 +1,4 @@
-ghost use Rattle.std.specs.Prelude.{◌≡◌, ◌≢◌, ◌≤◌, ◌<◌, ◌*◌, ◌/◌, ◌↔◌, ℕ, List, true, false, length, IfOk, OnOk, IfErr, IsSome, option_copied};
+ghost use Rattle.std.specs.Prelude.{◌≡◌, ◌≢◌, ◌≤◌, ◌<◌, ◌+◌, ◌*◌, ◌/◌, ◌↔◌, ℕ, List, true, false, length, IfOk, OnOk, IfErr, IsSome, IsTrue, option_copied};
 ghost use Rattle.kv_nand.specs.Flash.{Image};
 ghost use Rattle.kv_nand.specs.Working.{Works, Stops, ops_more};
 ghost use Rattle.kssd_entry.specs.declared.entry.Entry as entry;
@@ -45,7 +45,7 @@ impl Drop for Job {
 }
 
 impl Job {
-    ghost use Rattle.kssd_compact.specs.Job.{goal_of, job_blocks, StandsJob, CanStepJob, job_done, job_kind, CountsStep, TellsStep, IsSameJob, IsStartedJob, IsMade};
+    ghost use Rattle.kssd_compact.specs.Job.{goal_of, job_blocks, StandsJob, CanStepJob, job_done, job_kind, steps_done, CountsStep, TellsStep, IsSameJob, IsStartedJob, IsMade};
     ghost use Rattle.kssd_compact.specs.Steps.{Fills, WritesOn, Begins};
     ghost use Rattle.kssd_compact.specs.Source.{StandsSource};
 
@@ -80,6 +80,7 @@ impl Job {
         ensures same { OnOk result (IsSameJob self.old self.new) }
         ensures counts { OnOk result (CountsStep self.old (N.flash nand.old) self.new (N.flash nand.new)) }
         ensures wrote { IfOk result (λ wrote. TellsStep wrote (N.flash nand.old) self.new (N.flash nand.new)) }
+        ensures told { IfOk result (λ wrote. IsTrue wrote → steps_done self.new ≡ steps_done self.old + 1) }
         ensures outside { (page : ℕ) → has_block (job_blocks self.old) (page / 32) ≡ false → (N.flash nand.new).image page ≡ (N.flash nand.old).image page }
         ensures works { OnOk result (Works (N.flash nand.old) (N.flash nand.new) 1 (N.flash nand.new).reads) }
         ensures err { IfErr result (λ fault. Stops (N.flash nand.old) fault (N.flash nand.new) 1 (N.flash nand.new).reads) }

@@ -1,2 +1,5 @@
 pub mod AfterCalls
 pub mod Numbering
+pub mod Bounding
+pub mod Space
+pub mod Due

@@ -1,5 +1,5 @@
 -- What a device on flash is as a machine, and what holds of it at all times.
-use Rattle.std.specs.Prelude.{◌≡◌, ◌≤◌, ◌+◌, ℕ, max, true, false, refl, Option, Some, None, if◌then◌else◌}
+use Rattle.std.specs.Prelude.{◌≡◌, ◌⊎◌, ◌≤◌, ◌+◌, ℕ, max, true, false, refl, Option, Some, None, if◌then◌else◌}
 use Rattle.std.specs.Option.{ForSome}
 use Rattle.std.proofs.Props.{props}
 use Rattle.kv_nand.specs.Flash.{Flash}
@@ -15,7 +15,7 @@ use Rattle.kssd_mounted.specs.declared.mounted.Mounted.{Mounted}
 use Rattle.kssd_mounted.specs.Standing.{Stands, mounted_age, machine_at, takes_down}
 use Rattle.kssd_levels.specs.declared.kind.JobKind.{JobKind}
 use Rattle.kssd_mounted.proofs.OneProof.{Stands-prop}
-use Rattle.kssd_work.specs.Working.{IsDue}
+use Rattle.kssd_work.specs.Working.{IsDue, HasDone}
 
 -- a device that is up with what it keeps in memory, or down without
 abbrev pub machine_in : Flash → Option Mounted → Machine
@@ -44,6 +44,10 @@ machine_in-sound flash (Some m) age sound kept = standing.sound flash true m.cha
 abbrev pub IsDueIn : Option Mounted → Option JobKind → Type 0
 IsDueIn None job = job ≡ None
 IsDueIn (Some m) job = IsDue m job
+
+-- nothing is due any more; or all of so many operations were done but for 4 at most
+abbrev pub IsWorkedIn : Flash → ℕ → Option Mounted → Flash → Type 0
+IsWorkedIn old operations mounted new = IsDueIn mounted None ⊎ HasDone old operations 4 new
 
 -- what a device keeps in memory after a fault
 abbrev pub mounted_after : DeviceFault → Option Mounted → Option Mounted

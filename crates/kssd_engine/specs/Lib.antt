@@ -1,2 +1,4 @@
 pub mod Keeping
 pub mod Plans
+pub mod Bounds
+pub mod Space

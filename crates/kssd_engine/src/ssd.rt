@@ -8,8 +8,10 @@ ghost use Rattle.kssd_machine.specs.Machines.{resting};
 ghost use Rattle.kssd_mounted.specs.Standing.{Leaves};
 ghost use Rattle.kssd_mount.specs.Mounting.{FailsMounting, IsSpared};
 ghost use Rattle.kssd_engine.specs.Keeping.{IsKept, IsKept-prop, IsDueIn};
+ghost use Rattle.kssd_engine.specs.Bounds.{IsWithinWorst, IsWithinUsual};
 ghost use Rattle.kssd_engine.specs.Plans.{asked_by};
 
+use crate::OwnsFlash;
 use kssd_levels::JobKind;
 use kssd_mounted::Mounted;
 use kv_device::Device;
@@ -33,7 +35,8 @@ impl<N: PlannedNand> Ssd<N> {
     /// Mounts the device on a flash of 256 to 2,048 blocks, whatever its image is. Where that is sound
     /// the device is up then with the objects of the image, and nothing is pending; and where the block
     /// in which the newest anchor's log begins is Erased, the flash is only read, else the log is merged
-    /// with the runs into one run.
+    /// with the runs into one run. At most 512 operations are done where level 0 has at most 3 runs, and
+    /// never more than the worst cost.
     ///
     /// # Errors
     ///
@@ -51,6 +54,10 @@ impl<N: PlannedNand> Ssd<N> {
         ensures spared { IfErr result (λ back. IsSpared (N.flash nand) (N.flash back.0)) }
         ensures left { IfErr result (λ back. Sound (N.flash nand).blocks (N.flash nand).image → Leaves (N.flash nand) (age_in (N.flash nand).image + 2 ^ 20) (N.flash back.0)) }
         ensures objects { IfErr result (λ back. objects_in (N.flash back.0).image ≡ objects_in (N.flash nand).image) }
+        ensures worst { IfOk result (λ ssd. IsWithinWorst (N.flash nand) (N.flash ssd.nand)) }
+        ensures usual { IfOk result (λ ssd. IsWithinUsual (N.flash nand) (N.flash ssd.nand)) }
+        ensures worst_back { IfErr result (λ back. IsWithinWorst (N.flash nand) (N.flash back.0)) }
+        ensures usual_back { IfErr result (λ back. IsWithinUsual (N.flash nand) (N.flash back.0)) }
     {
         let mut nand = nand;
         match kssd_mount::mount(alloc, &mut nand) {
@@ -79,9 +86,10 @@ impl<N: PlannedNand> Ssd<N> {
         self.nand
     }
 
-    /// The job that is due between calls.
+    /// The job that is due between calls; none where nothing is due.
     pub fn due(&self) -> Option<JobKind>
-        ensures { IsDueIn self.now.mounted result }
+        ensures due { IsDueIn (⟦<Ssd<N> as OwnsFlash>⟧.mounted_of self.now) result }
+        ensures none { IsDueIn (⟦<Ssd<N> as OwnsFlash>⟧.mounted_of self.now) None → result ≡ None }
     {
         match &self.mounted {
             Some(mounted) => kssd_work::due(mounted),

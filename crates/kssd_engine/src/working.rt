@@ -1,7 +1,8 @@
 // The work between calls, with the device's faults.
-ghost use Rattle.std.specs.Prelude.{◌≡◌, ◌≤◌, ◌+◌, ◌^◌, false, OnOk, IfErr};
+ghost use Rattle.std.specs.Prelude.{◌≡◌, ◌≤◌, ◌+◌, ◌^◌, false, None, OnOk, IfErr};
 ghost use Rattle.kv_device.specs.Calls.{WorkDone, WorkFault};
 ghost use Rattle.kssd_mounted.specs.Standing.{Stands, Leaves, mounted_age, machine_at, machine_after, takes_down};
+ghost use Rattle.kssd_work.specs.Working.{IsDue, IsWorked, enough_work};
 
 use kssd_mounted::{Mounted, device_fault};
 use kv_device::DeviceFault;
@@ -22,6 +23,9 @@ pub fn work_on<N: Nand>(
     ensures stands { OnOk result (Stands mounted.new (N.flash nand.new)) }
     ensures refused { IfErr result (λ fault. takes_down fault ≡ false → Stands mounted.new (N.flash nand.new)) }
     ensures ages { mounted_age mounted.new ≤ mounted_age mounted.old + 2 ^ 12 }
+    ensures few { (N.flash nand.new).ops ≤ (N.flash nand.old).ops + operations }
+    ensures worked { OnOk result (IsWorked (N.flash nand.old) operations mounted.new (N.flash nand.new)) }
+    ensures done { enough_work (N.flash nand.old).blocks ≤ operations → OnOk result (IsDue mounted.new None) }
     ensures leaves { Leaves (N.flash nand.old) (mounted_age mounted.old + 2 ^ 12) (N.flash nand.new) }
 {
     match kssd_work::work(alloc, nand, mounted, operations) {

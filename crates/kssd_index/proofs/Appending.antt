@@ -144,7 +144,7 @@ ends_behind index blocks old new entries after has h appends behind place =
     let now = grown_now later old new.image entries _ after.page after.seq later_log later_turns fits few in
     record {
       log = at_log after later new.image (groups_by old later ++ entries ∷ []) _ later_log fits (omega (arith, behind.blocks, h.stands.log.blocks)) place.free;
-      long = within_log after index.root.anchor new.image (groups_by old index.root.anchor ++ entries ∷ []) _ log fits (omega (arith, behind.blocks, h.stands.long.blocks));
+      long = within_log after index.root.anchor new.image (groups_by old index.root.anchor ++ entries ∷ []) _ log fits (omega (arith, behind.blocks, h.stands.long.least)) (omega (arith, behind.blocks, h.stands.long.blocks));
       left = omega (arith, behind.blocks, n.left);
       table = table_grows later old new.image entries after.seq now;
       whole = now.whole;

@@ -17,7 +17,7 @@ use Rattle.kssd_root.specs.Following.{with_log, IsSplit, ShowAlike, SameLog}
 use Rattle.kssd_root.proofs.Moving.{log_same, table_still}
 use Rattle.kssd_root.proofs.RunsWritten.{table_same}
 use Rattle.kssd_root.specs.Costs.{merge_cost}
-use Rattle.kssd_root.proofs.Steps.{stops_on}
+use Rattle.kssd_root.proofs.Steps.{works_on, stops_on}
 use Rattle.kssd_root.proofs.Splitting.{later_log, later_whole}
 use Rattle.kssd_index.specs.declared.index.Older.{Older}
 use Rattle.kssd_index.specs.declared.index.Index.{Index}
@@ -76,6 +76,12 @@ pub flush_stops : (o : Option Older) (older : Older) (a b c : Flash) (fault : Fl
 flush_stops o older a b c fault is sound works stops =
     subst (λ (x : Option Older). Stops a fault c (flush_cost x a.blocks) (2 ^ 64)) (sym is)
     (stops_on a b c fault (merge_cost One a.blocks + merge_cost Zero a.blocks) (merge_cost Flush b.blocks) (flush_cost (Some older) a.blocks) (2 ^ 64) (2 ^ 64) sound (omega arith) works stops)
+
+-- merges that were done, and a flush behind them
+pub flush_works : (o : Option Older) (older : Older) (a b c : Flash) → o ≡ Some older → IsSound c → Works a b (merge_cost One a.blocks + merge_cost Zero a.blocks) (2 ^ 64) → Works b c (merge_cost Flush b.blocks) (2 ^ 64) → Works a c (flush_cost o a.blocks) (2 ^ 64)
+flush_works o older a b c is sound works more =
+    subst (λ (x : Option Older). Works a c (flush_cost x a.blocks) (2 ^ 64)) (sym is)
+    (works_on a b c (merge_cost One a.blocks + merge_cost Zero a.blocks) (merge_cost Flush b.blocks) (flush_cost (Some older) a.blocks) (2 ^ 64) (2 ^ 64) sound (omega arith) works more)
 
 -- without an older table none is written
 pub none_cost : (o : Option Older) (blocks : ℕ) → is_some o ≡ false → flush_cost o blocks ≡ 0

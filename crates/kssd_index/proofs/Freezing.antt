@@ -124,7 +124,7 @@ stands_frozen index older table after age blocks old new t f none aged =
     let now : IsLogNow later new [] [] after.seq = log_now later new [] [] 0 after.page after.seq later_log (omega arith) fits (omega arith) in
     let nothing : table_of new later ≡ [] = table_is later new [] [] after.seq now in
     let log = at_log after later new [] 0 later_log fits (omega (arith, eight)) t.free in
-    let long = within_log after anchor new (groups_by old anchor) _ (log_behind index after blocks old new t) fits (omega (arith, turns_few index blocks old t.before, eight)) in
+    let long = within_log after anchor new (groups_by old anchor) _ (log_behind index after blocks old new t) fits (omega (arith, eight)) (omega (arith, turns_few index blocks old t.before, eight)) in
     record {
       root = record {
         device = h.root.device;

@@ -1,5 +1,5 @@
 -- Doing jobs by single steps.
-use Rattle.std.proofs.Common.{true, false, not, ◌≡◌, ◌≢◌, ◌⊎◌, ◌∙◌, ℕ, ◌+◌, ◌-◌, ◌/◌, ◌<◌, ◌≤◌, ◌^◌, Bool, cond, List, [], length, Some, None, refl, sym, ap, subst, arith, inl, inr, Option}
+use Rattle.std.proofs.Common.{true, false, not, ◌≡◌, ◌≢◌, ◌⊎◌, ◌∙◌, ℕ, ◌+◌, ◌-◌, ◌/◌, ◌<◌, ◌≤◌, ◌^◌, Bool, cond, List, length, Some, None, refl, sym, ap, subst, arith, inl, inr, Option}
 use Rattle.std.specs.Prelude.{nat_eq, nat_lt, nat_le, ◌&&◌, is_some, IsSomeAnd}
 use Rattle.std.specs.Option.{ForSome}
 use Rattle.std.specs.List.{list_any}
@@ -41,7 +41,7 @@ use Rattle.kssd_root.proofs.UnderWay.{way_named}
 use Rattle.kssd_index.specs.declared.index.Older.{Older}
 use Rattle.kssd_index.specs.declared.index.Index.{Index}
 use Rattle.kssd_index.specs.Standing.{IsIndex, has_frozen, IsRunning, StandsOver, job_table, older_entries, later_anchor, later_of}
-use Rattle.kssd_index.specs.Working.{due_in, jobs_ahead, WorksOn}
+use Rattle.kssd_index.specs.Working.{due_in, WorksOn}
 use Rattle.kssd_index.proofs.Anchored.{aged_still}
 use Rattle.kssd_index.proofs.Later.{at_same, within_same, ring_page, unsplit}
 use Rattle.kssd_index.proofs.Flushing.{split_after, table_alike}
@@ -49,7 +49,7 @@ use Rattle.kssd_index.proofs.Beside.{index_by, index_kept_still}
 
 -- ---- which job is due
 
-some_is : (a b : JobKind) → Some a ≡ Some b → a ≡ b
+pub some_is : (a b : JobKind) → Some a ≡ Some b → a ≡ b
 some_is a b e = cc
 
 pub record IsDueMerge (kind : JobKind) (levels : Levels) : Type 0 where
@@ -118,43 +118,6 @@ pub none_frozen : (index : Index) → due_in index ≡ None → has_frozen index
 none_frozen index none =
     let levels = index.root.levels in
     unfrozen_by (is_some index.older) (nat_le (first_entries levels.one) 4096) (nat_lt (length levels.zero) 4) none
-
-abbrev levels_ahead : Levels → ℕ
-levels_ahead levels = cond (nat_lt (length levels.zero) 4) 0 2 + cond (nat_le (first_entries levels.one) 4096) 0 1
-
-at_most : (b : Bool) → cond b 0 1 ≤ 1
-at_most true = omega arith
-at_most false = omega arith
-
-fewer_by : (few room : Bool) (kind : JobKind) (old new : Levels) → nat_le (first_entries old.one) 4096 ≡ few → nat_lt (length old.zero) 4 ≡ room → cond few (cond room None (Some Zero)) (Some One) ≡ Some kind
-    → (kind ≡ Zero → new.zero ≡ []) → (kind ≡ One → (new.zero ≡ old.zero) × (new.one ≡ [])) → levels_ahead new < cond room 0 2 + cond few 0 1
-fewer_by true true kind old new few room due zero one = absurd cc
-fewer_by true false kind old new few room due zero one =
-    let none : cond (nat_lt (length new.zero) 4) 0 2 ≡ 0 = ap (λ (rs : List _). let n : ℕ = cond (nat_lt (length rs) 4) 0 2 in n) (zero (sym (some_is Zero kind due))) in
-    omega (arith, none, at_most (nat_le (first_entries new.one) 4096))
-fewer_by false room kind old new few is_room due zero one =
-    let p = one (sym (some_is One kind due)) in
-    let same : cond (nat_lt (length new.zero) 4) 0 2 ≡ cond room 0 2 = ap (λ (rs : List _). let n : ℕ = cond (nat_lt (length rs) 4) 0 2 in n) p.0 ∙ ap (λ (b : Bool). let n : ℕ = cond b 0 2 in n) is_room in
-    let none : cond (nat_le (first_entries new.one) 4096) 0 1 ≡ 0 = ap (λ (rs : List _). let n : ℕ = cond (nat_le (first_entries rs) 4096) 0 1 in n) p.1 in
-    omega (arith, same, none)
-
--- a merge that was due is done: fewer jobs are ahead
-pub fewer_merges : (kind : JobKind) (old : Index) (root : Root) (age : ℕ) → due_in old ≡ Some kind → kind ≢ Flush → (kind ≡ Zero → root.levels.zero ≡ []) → (kind ≡ One → (root.levels.zero ≡ old.root.levels.zero) × (root.levels.one ≡ [])) → jobs_ahead (record old { root = root; age = age }) < jobs_ahead old
-fewer_merges kind old root age due other zero one =
-    let levels = old.root.levels in
-    let fewer = fewer_by (nat_le (first_entries levels.one) 4096) (nat_lt (length levels.zero) 4) kind levels root.levels refl refl (levels_due old kind due other) zero one in
-    omega (arith, fewer)
-
-at_most_two : (b : Bool) → cond b 0 2 ≤ 2
-at_most_two true = omega arith
-at_most_two false = omega arith
-
--- a flush is done
-pub fewer_flushes : (old : Index) (root : Root) (age : ℕ) → is_some old.older ≡ true → root.levels.one ≡ old.root.levels.one → jobs_ahead (record old { root = root; age = age; older = None }) < jobs_ahead old
-fewer_flushes old root age frozen one =
-    let three : cond (is_some old.older) 3 0 ≡ 3 = ap (λ (b : Bool). let n : ℕ = cond b 3 0 in n) frozen in
-    let same : cond (nat_le (first_entries root.levels.one) 4096) 0 1 ≡ cond (nat_le (first_entries old.root.levels.one) 4096) 0 1 = ap (λ (rs : List _). let n : ℕ = cond (nat_le (first_entries rs) 4096) 0 1 in n) one in
-    omega (arith, three, same, at_most_two (nat_lt (length root.levels.zero) 4))
 
 -- ---- operations
 
@@ -360,13 +323,6 @@ back_on kind job most left index before after due on way = record {
   works = on.works;
   exact = on.exact;
 }
-
-at_most_three : (b : Bool) → cond b 3 0 ≤ 3
-at_most_three true = omega arith
-at_most_three false = omega arith
-
-pub jobs_few : (index : Index) → jobs_ahead index ≤ 6
-jobs_few index = omega (arith, at_most_three (is_some index.older), at_most_two (nat_lt (length index.root.levels.zero) 4), at_most (nat_le (first_entries index.root.levels.one) 4096))
 
 pub was_named : (named : Bool) → not named ≡ false → named ≡ true
 was_named true e = refl

@@ -31,7 +31,7 @@ use Rattle.kssd_index.specs.Standing.{EndsWithin, IsIndex, later_of, older_entri
 -- ---- a log that ends at a place
 
 pub within_of : (place : Place) (anchor : Anchor) (image : Image) → EndsAt place anchor image → EndsWithin place anchor image
-within_of place anchor image h = record { page = h.page; number = h.number; whole = h.whole; blocks = omega (arith, h.blocks) }
+within_of place anchor image h = record { page = h.page; number = h.number; whole = h.whole; least = omega (arith, h.blocks); blocks = omega (arith, h.blocks) }
 
 pub log_here : (place : Place) (anchor : Anchor) (image : Image) → HasBytes image → EndsWithin place anchor image → IsLogWhole image (log_of image anchor)
     → HasLog image (32 * anchor.log_block) anchor.log_seq (groups_by image anchor) [] (turn_count (log_of image anchor).pages) place.page place.seq
@@ -40,13 +40,14 @@ log_here place anchor image has ends whole =
     (subst (λ (p : ℕ × ℕ). seen p.0 p.1 (image p.0) ≡ Ends) (λ i. (ends.page i, ends.number i)) whole.ends)
     ends.whole
 
-pub within_log : (place : Place) (anchor : Anchor) (image : Image) (groups : List (List Entry)) (turns : ℕ) → HasLog image (32 * anchor.log_block) anchor.log_seq groups [] turns place.page place.seq → place.seq < 2 ^ 64 → turns + place.blocks ≤ 16 → EndsWithin place anchor image
-within_log place anchor image groups turns log fits few =
+pub within_log : (place : Place) (anchor : Anchor) (image : Image) (groups : List (List Entry)) (turns : ℕ) → HasLog image (32 * anchor.log_block) anchor.log_seq groups [] turns place.page place.seq → place.seq < 2 ^ 64 → 8 ≤ turns + place.blocks → turns + place.blocks ≤ 16 → EndsWithin place anchor image
+within_log place anchor image groups turns log fits some few =
     let is = log_in_is image (32 * anchor.log_block) anchor.log_seq groups [] turns place.page place.seq log fits in
     record {
       page = ap (λ (w : Walk). w.end) is;
       number = ap (λ (w : Walk). w.next) is;
       whole = ap (λ (w : Walk). rest_from [] w.pages) is ∙ log.rest_is;
+      least = omega (arith, ap (λ (w : Walk). turn_count w.pages) is, log.turns_are, some);
       blocks = omega (arith, ap (λ (w : Walk). turn_count w.pages) is, log.turns_are, few);
     }
 
@@ -68,6 +69,7 @@ within_same place a b old new is h = record {
   page = ap (λ (w : Walk). w.end) is ∙ h.page;
   number = ap (λ (w : Walk). w.next) is ∙ h.number;
   whole = ap (λ (w : Walk). rest_from [] w.pages) is ∙ h.whole;
+  least = omega (arith, ap (λ (w : Walk). turn_count w.pages) is, h.least);
   blocks = omega (arith, ap (λ (w : Walk). turn_count w.pages) is, h.blocks);
 }
 

@@ -11,3 +11,5 @@ pub mod Flushing
 pub mod Freezing
 pub mod JobSteps
 pub mod NamedJobs
+pub mod Bounds
+pub mod Ahead

@@ -39,11 +39,12 @@ has_frozen index = is_some index.older
 abbrev pub later_of : Index → Anchor
 later_of index = later_anchor index.root.anchor index.older
 
--- the anchor's log ends at this place behind its last whole group; with the blocks that are left it fills at most 16
+-- the anchor's log ends at this place behind its last whole group; with the blocks that are left it fills at least 8 and at most 16
 pub record EndsWithin (place : Place) (anchor : Anchor) (image : Image) : Type 0 where
   pub page : (log_of image anchor).end ≡ place.page
   pub number : (log_of image anchor).next ≡ place.seq
   pub whole : rest_from [] (log_of image anchor).pages ≡ []
+  pub least : 8 ≤ turn_count (log_of image anchor).pages + place.blocks
   pub blocks : turn_count (log_of image anchor).pages + place.blocks ≤ 16
 
 -- ---- the job under way
@@ -86,6 +87,10 @@ index_age index = index.age
 -- where its log goes on, and the newest entry of each key of that log
 abbrev pub index_ring : Index → Place
 index_ring index = index.ring
+
+-- the newest anchor and its runs
+abbrev pub index_root : Index → Root
+index_root index = index.root
 
 abbrev pub index_table : Index → List Entry
 index_table index = merged index.table (older_entries index.older)

@@ -52,7 +52,7 @@ impl Index {
     ghost use Rattle.kssd_model.specs.Rising.{is_rising};
     ghost use Rattle.kssd_image.specs.Stages.{shown_in};
     ghost use Rattle.kssd_image.specs.Whole.{pages_named, age_in};
-    ghost use Rattle.kssd_index.specs.Standing.{IsIndex, index_age};
+    ghost use Rattle.kssd_index.specs.Standing.{IsIndex, index_age, index_root};
     ghost use Rattle.kssd_root.specs.Mapping.{with_entries, SameValues, IsBeforeOrAfter};
     ghost use Rattle.kssd_index.specs.Costs.{has_place_in, group_cost};
 
@@ -85,6 +85,7 @@ impl Index {
         ensures stands { OnOk result (IsIndex self.new (N.flash nand.new).blocks (N.flash nand.new).image) }
         ensures shown { OnOk result (shown_in (N.flash nand.new).image ≡ with_entries (shown_in (N.flash nand.old).image) entries.now) }
         ensures kept { IsBeforeOrAfter (N.flash nand.old).blocks (N.flash nand.old).image entries.now (N.flash nand.new).image }
+        ensures root { index_root self.new ≡ index_root self.old }
         ensures aged { age_in (N.flash nand.new).image ≤ index_age self.new }
         ensures ages { index_age self.new ≤ index_age self.old + 2 ^ 8 }
         ensures works { OnOk result (Works (N.flash nand.old) (N.flash nand.new) (group_cost self.old entries.now) 0) }

@@ -42,11 +42,11 @@ impl Index {
     ghost use Rattle.kv_nand.specs.Flash.{Image};
     ghost use Rattle.kv_nand.specs.Working.{Works, Stops};
     ghost use Rattle.kssd_image.specs.Whole.{age_in};
-    ghost use Rattle.kssd_index.specs.Standing.{IsIndex, AreParts, IsFit, is_clean, has_frozen, index_age, index_ring};
+    ghost use Rattle.kssd_index.specs.Standing.{IsIndex, AreParts, IsFit, is_clean, has_frozen, index_age, index_ring, index_root};
     ghost use Rattle.kssd_root.specs.Mapping.{IsKept};
-    ghost use Rattle.kssd_root.specs.Costs.{most_place_cost};
+    ghost use Rattle.kssd_root.specs.Costs.{most_place_cost, usual_place_cost};
     ghost use Rattle.kssd_log.specs.Ring.{room_of};
-    ghost use Rattle.kssd_index.specs.Costs.{has_place_in, flush_cost, place_cost};
+    ghost use Rattle.kssd_index.specs.Costs.{has_place_in, flush_cost, place_cost, zero_runs};
 
     /// The index of these parts, where the block in which the log begins is clean. Nothing is wrong
     /// with the anchor's own fields.
@@ -90,6 +90,7 @@ impl Index {
         ensures age { IfOk result (λ index. index_age index ≤ age_in (N.flash nand.old).image + 3) }
         ensures works { OnOk result (Works (N.flash nand.old) (N.flash nand.new) (most_place_cost (N.flash nand.old).blocks) (2 ^ 64)) }
         ensures stops { IfErr result (λ fault. Stops (N.flash nand.old) fault (N.flash nand.new) (most_place_cost (N.flash nand.old).blocks) (2 ^ 64)) }
+        ensures usual { length parts.levels.zero ≤ 3 → (N.flash nand.new).ops ≤ (N.flash nand.old).ops + usual_place_cost }
     {
         let table = Table::new(alloc)?;
         let mut root = Root {
@@ -117,11 +118,13 @@ impl Index {
         requires number { index_age self.old + 2 ^ 20 ≤ 2 ^ 63 }
         ensures stands { OnOk result (IsIndex self.new (N.flash nand.new).blocks (N.flash nand.new).image) }
         ensures gone { OnOk result (self.new.older ≡ None) }
+        ensures root { has_frozen self.old ≡ false → OnOk result (self.new.root ≡ self.old.root) }
         ensures kept { IsKept (N.flash nand.old).blocks (N.flash nand.old).image (N.flash nand.new).image }
         ensures aged { age_in (N.flash nand.new).image ≤ index_age self.new }
         ensures ages { index_age self.new ≤ index_age self.old + 3 }
         ensures works { OnOk result (Works (N.flash nand.old) (N.flash nand.new) (flush_cost self.old.older (N.flash nand.old).blocks) (2 ^ 64)) }
         ensures stops { IfErr result (λ fault. Stops (N.flash nand.old) fault (N.flash nand.new) (flush_cost self.old.older (N.flash nand.old).blocks) (2 ^ 64)) }
+        ensures usual { zero_runs self.old ≤ 3 → (N.flash nand.new).ops + 2 ≤ (N.flash nand.old).ops + usual_place_cost }
     {
         let Some(older) = self.older.take() else {
             return Ok(());
@@ -142,6 +145,7 @@ impl Index {
         ensures stands { OnOk result (IsIndex self.new (N.flash nand.new).blocks (N.flash nand.new).image) }
         ensures empty { OnOk result (self.new.table ≡ []) }
         ensures room { OnOk result (room_of self.new.ring ≡ 248) }
+        ensures root { OnOk result (self.new.root ≡ self.old.root) }
         ensures kept { IsKept (N.flash nand.old).blocks (N.flash nand.old).image (N.flash nand.new).image }
         ensures aged { age_in (N.flash nand.new).image ≤ index_age self.new }
         ensures ages { index_age self.new ≤ index_age self.old + 1 }
@@ -181,8 +185,10 @@ impl Index {
         ensures works { OnOk result (Works (N.flash nand.old) (N.flash nand.new) (most_place_cost (N.flash nand.old).blocks) (2 ^ 64)) }
         ensures stops { IfErr result (λ fault. Stops (N.flash nand.old) fault (N.flash nand.new) (most_place_cost (N.flash nand.old).blocks) (2 ^ 64)) }
         ensures fresh { OnOk result (room_of (index_ring self.new) ≡ 248) }
+        ensures root { has_frozen self.old ≡ false → OnOk result (index_root self.new ≡ index_root self.old) }
         ensures unfrozen { has_frozen self.old ≡ false → OnOk result (Works (N.flash nand.old) (N.flash nand.new) 2 (2 ^ 64)) }
         ensures unfrozen_stops { has_frozen self.old ≡ false → IfErr result (λ fault. Stops (N.flash nand.old) fault (N.flash nand.new) 2 (2 ^ 64)) }
+        ensures usual { zero_runs self.old ≤ 3 → (N.flash nand.new).ops ≤ (N.flash nand.old).ops + usual_place_cost }
     {
         read_sizes(entries);
         self.flush_older(alloc, nand)?;

@@ -45,10 +45,11 @@ impl Index {
     ghost use Rattle.kssd_image.specs.Whole.{age_in};
     ghost use Rattle.kssd_compact.specs.Job.{job_done};
     ghost use Rattle.kssd_root.specs.Standing.{IsRoot};
+    ghost use Rattle.kssd_root.specs.Costs.{run_cost, merge_cost};
     ghost use Rattle.kssd_root.specs.Mapping.{IsKept};
     ghost use Rattle.kssd_root.specs.UnderWay.{IsUnderWay};
     ghost use Rattle.kssd_index.specs.Standing.{IsIndex, older_entries, job_table, index_age};
-    ghost use Rattle.kssd_index.specs.Working.{due_in, jobs_ahead, WorksOn};
+    ghost use Rattle.kssd_index.specs.Working.{due_in, work_ahead, IsOneFewer, WorksOn};
 
     /// The job that is due: the flush of the frozen table where level 0 has fewer than 4 runs; else a
     /// merge of level 0 where it has 4 and level 1 at most 4,096 entries, and a merge of level 1 where
@@ -127,6 +128,7 @@ impl Index {
         ensures on { IfOk result (λ on. WorksOn operations on.1 (N.flash nand.old) self.new (N.flash nand.new)) }
         ensures way { IfOk result (λ on. IsUnderWay kind on.0 (job_table kind self.old.older) self.old.root (N.flash nand.new).blocks (N.flash nand.new).image) }
         ensures end { IfOk result (λ on. job_done on.0 ≡ false → on.1 ≡ 0) }
+        ensures bounded { IfOk result (λ on. operations - on.1 ≤ run_cost kind (N.flash nand.old).blocks) }
         ensures kept { IsKept (N.flash nand.old).blocks (N.flash nand.old).image (N.flash nand.new).image }
         ensures aged { age_in (N.flash nand.new).image ≤ index_age self.new }
         ensures stops { IfErr result (λ fault. Stops (N.flash nand.old) fault (N.flash nand.new) operations (2 ^ 64)) }
@@ -153,7 +155,7 @@ impl Index {
         requires number { index_age self.old + 2 ^ 19 + 1 ≤ 2 ^ 63 }
         ensures stands { OnOk result (IsIndex self.new (N.flash nand.new).blocks (N.flash nand.new).image) }
         ensures age { index_age self.new ≡ index_age self.old + 1 }
-        ensures fewer { OnOk result (jobs_ahead self.new < jobs_ahead self.old) }
+        ensures fewer { OnOk result (IsOneFewer kind self.old self.new) }
         ensures kept { IsKept (N.flash nand.old).blocks (N.flash nand.old).image (N.flash nand.new).image }
         ensures aged { age_in (N.flash nand.new).image ≤ index_age self.new }
         ensures works { OnOk result (Works (N.flash nand.old) (N.flash nand.new) 2 32) }
@@ -180,7 +182,7 @@ impl Index {
         requires number { index_age self.old + 2 ^ 19 + 1 ≤ 2 ^ 63 }
         ensures stands { OnOk result (IsIndex self.new (N.flash nand.new).blocks (N.flash nand.new).image) }
         ensures age { index_age self.new ≡ index_age self.old + 1 }
-        ensures fewer { OnOk result (jobs_ahead self.new < jobs_ahead self.old) }
+        ensures fewer { OnOk result (IsOneFewer JobKind.Flush self.old self.new) }
         ensures kept { IsKept (N.flash nand.old).blocks (N.flash nand.old).image (N.flash nand.new).image }
         ensures aged { age_in (N.flash nand.new).image ≤ index_age self.new }
         ensures works { OnOk result (Works (N.flash nand.old) (N.flash nand.new) 2 32) }
@@ -212,7 +214,7 @@ impl Index {
         requires number { index_age self.old + 2 ^ 19 + 1 ≤ 2 ^ 63 }
         ensures stands { OnOk result (IsIndex self.new (N.flash nand.new).blocks (N.flash nand.new).image) }
         ensures age { index_age self.new ≡ index_age self.old + 1 }
-        ensures fewer { OnOk result (jobs_ahead self.new < jobs_ahead self.old) }
+        ensures fewer { OnOk result (IsOneFewer kind self.old self.new) }
         ensures kept { IsKept (N.flash nand.old).blocks (N.flash nand.old).image (N.flash nand.new).image }
         ensures aged { age_in (N.flash nand.new).image ≤ index_age self.new }
         ensures works { OnOk result (Works (N.flash nand.old) (N.flash nand.new) 2 32) }
@@ -243,8 +245,9 @@ impl Index {
         requires number { index_age self.old + 2 ^ 19 + 1 ≤ 2 ^ 63 }
         ensures on { IfOk result (λ to. WorksOn operations to.left (N.flash nand.old) self.new (N.flash nand.new)) }
         ensures ages { index_age self.new ≤ index_age self.old + 1 }
-        ensures named { IfOk result (λ to. to.named ≡ true → jobs_ahead self.new < jobs_ahead self.old) }
+        ensures named { IfOk result (λ to. to.named ≡ true → IsOneFewer kind self.old self.new) }
         ensures end { IfOk result (λ to. to.named ≡ false → to.left < 2) }
+        ensures few { IfOk result (λ to. operations ≤ to.left + 2) }
         ensures kept { IsKept (N.flash nand.old).blocks (N.flash nand.old).image (N.flash nand.new).image }
         ensures aged { age_in (N.flash nand.new).image ≤ index_age self.new }
         ensures stops { IfErr result (λ fault. Stops (N.flash nand.old) fault (N.flash nand.new) operations (2 ^ 64)) }
@@ -277,8 +280,9 @@ impl Index {
         requires number { index_age self.old + 2 ^ 19 + 1 ≤ 2 ^ 63 }
         ensures on { IfOk result (λ to. WorksOn operations to.left (N.flash nand.old) self.new (N.flash nand.new)) }
         ensures ages { index_age self.new ≤ index_age self.old + 1 }
-        ensures named { IfOk result (λ to. to.named ≡ true → jobs_ahead self.new < jobs_ahead self.old) }
+        ensures named { IfOk result (λ to. to.named ≡ true → IsOneFewer kind self.old self.new) }
         ensures end { IfOk result (λ to. to.named ≡ false → to.left < 2) }
+        ensures bounded { IfOk result (λ to. operations - to.left ≤ merge_cost kind (N.flash nand.old).blocks) }
         ensures kept { IsKept (N.flash nand.old).blocks (N.flash nand.old).image (N.flash nand.new).image }
         ensures aged { age_in (N.flash nand.new).image ≤ index_age self.new }
         ensures stops { IfErr result (λ fault. Stops (N.flash nand.old) fault (N.flash nand.new) operations (2 ^ 64)) }
@@ -292,8 +296,9 @@ impl Index {
         Ok(progress)
     }
 
-    /// Does the jobs that are due with at most so many operations, and answers how many are left:
-    /// fewer than 2, unless none is due any more. The visible entries stay, also after a fault.
+    /// Does the jobs that are due with at most so many operations, and no more than those that are ahead
+    /// may take, and answers how many are left: fewer than 2, unless none is due any more. The visible
+    /// entries stay, also after a fault.
     pub fn work<N: Nand>(
         &mut self,
         alloc: Global,
@@ -311,6 +316,7 @@ impl Index {
         ensures exact { IfOk result (λ left. (N.flash nand.new).ops ≡ ops_more (N.flash nand.old) (operations - left)) }
         ensures stops { IfErr result (λ fault. Stops (N.flash nand.old) fault (N.flash nand.new) operations (2 ^ 64)) }
         ensures whole { IfOk result (λ left. (left < 2) ⊎ (due_in self.new ≡ None)) }
+        ensures bounded { IfOk result (λ left. operations - left ≤ work_ahead self.old (N.flash nand.old).blocks) }
         ensures idle { due_in self.old ≡ None → (self.new ≡ self.old) × (N.flash nand.new ≡ N.flash nand.old) × IfOk result (λ left. left ≡ operations) }
     {
         let mut left = operations;

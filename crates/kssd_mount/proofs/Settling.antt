@@ -20,6 +20,7 @@ use Rattle.kssd_index.specs.declared.index.Index.{Index}
 use Rattle.kssd_root.specs.Standing.{IsAnchored, AreRuns}
 use Rattle.kssd_index.specs.Standing.{IsIndex}
 use Rattle.kssd_index.specs.Standing as index
+use Rattle.kssd_index.specs.Costs.{zero_runs_in}
 use Rattle.kssd_root.specs.Mapping.{IsKept}
 use Rattle.kssd_root.proofs.Anchored.{anchor_is}
 use Rattle.kssd_machine.specs.Names.{are_rising, are_valued}
@@ -148,3 +149,11 @@ pub machine_is : (old mid new : Flash) (clean : Bool) (changes : Transactions) �
 machine_is old mid new clean changes sound read h counts none =
     let objects = objects_stay old mid new clean sound read h ∙ sym (ap objects_in (reads_image old mid read)) in
     ap (machine_of new true) none ∙ stays mid new true no_lists counts objects (λ page some. absurd (omega arith)) ∙ reading_stays old mid true no_lists read ∙ mounted old
+
+-- ---- its operations
+
+-- few operations where level 0 has place, also behind mere reading
+pub usual_then : (old mid new : Flash) (cost : ℕ) → OnlyReads old mid → (zero_runs_in mid.image ≤ 3 → new.ops ≤ mid.ops + cost) → zero_runs_in old.image ≤ 3 → new.ops ≤ old.ops + cost
+usual_then old mid new cost reads bound low =
+    let first = ap (λ (f : Flash). f.ops) reads.after in
+    omega (arith, first, bound (subst (λ (image : Image). zero_runs_in image ≤ 3) (sym (reads_image old mid reads)) low))

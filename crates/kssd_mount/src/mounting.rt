@@ -4,7 +4,8 @@ ghost use Rattle.kv_nand.specs.Working.{Works, Stops};
 ghost use Rattle.kv_device.specs.Machine.{restarted};
 ghost use Rattle.kssd_image.specs.Stages.{objects_in};
 ghost use Rattle.kssd_image.specs.Whole.{Sound, age_in};
-ghost use Rattle.kssd_root.specs.Costs.{most_place_cost};
+ghost use Rattle.kssd_root.specs.Costs.{most_place_cost, usual_place_cost};
+ghost use Rattle.kssd_index.specs.Costs.{zero_runs_in};
 ghost use Rattle.kssd_index.specs.Standing.{IsIndex, IsFit, is_clean, index_age};
 ghost use Rattle.kssd_index.specs.Standing.{AreParts as AreIndexParts};
 ghost use Rattle.kssd_machine.specs.Machines.{no_lists, resting};
@@ -41,6 +42,7 @@ pub fn mount<N: Nand>(alloc: Global, nand: &mut N) -> Result<Mounted, MountFault
     ensures low { OnOk result (age_in (N.flash nand.old).image ≤ 2 ^ 62 + 2 ^ 10) }
     ensures clean { IsClean (N.flash nand.old).image → IsOnlyRead (N.flash nand.old) (N.flash nand.new) }
     ensures few { (N.flash nand.new).ops ≤ (N.flash nand.old).ops + most_place_cost (N.flash nand.old).blocks }
+    ensures usual { zero_runs_in (N.flash nand.old).image ≤ 3 → (N.flash nand.new).ops ≤ (N.flash nand.old).ops + usual_place_cost }
 {
     let parts = recover(alloc, nand)?;
     let mounted = stand_up(alloc, nand, parts)?;
@@ -58,6 +60,7 @@ fn stand_up<N: Nand>(alloc: Global, nand: &mut N, parts: Parts) -> Result<Mounte
     ensures settled { IsSettled parts.clean (N.flash nand.old) (N.flash nand.new) }
     ensures works { OnOk result (Works (N.flash nand.old) (N.flash nand.new) (most_place_cost (N.flash nand.old).blocks) (2 ^ 64)) }
     ensures stops { IfErr result (λ fault. Stops (N.flash nand.old) fault (N.flash nand.new) (most_place_cost (N.flash nand.old).blocks) (2 ^ 64)) }
+    ensures usual { zero_runs_in (N.flash nand.old).image ≤ 3 → (N.flash nand.new).ops ≤ (N.flash nand.old).ops + usual_place_cost }
 {
     let changes = TxTable::new(alloc)?;
     let Parts {
@@ -107,6 +110,7 @@ fn index_of<N: Nand>(alloc: Global, nand: &mut N, parts: IndexParts) -> Result<I
     ensures settled { IsSettled (is_clean parts) (N.flash nand.old) (N.flash nand.new) }
     ensures works { OnOk result (Works (N.flash nand.old) (N.flash nand.new) (most_place_cost (N.flash nand.old).blocks) (2 ^ 64)) }
     ensures stops { IfErr result (λ fault. Stops (N.flash nand.old) fault (N.flash nand.new) (most_place_cost (N.flash nand.old).blocks) (2 ^ 64)) }
+    ensures usual { zero_runs_in (N.flash nand.old).image ≤ 3 → (N.flash nand.new).ops ≤ (N.flash nand.old).ops + usual_place_cost }
 {
     if parts.clean {
         let index = Index::open(alloc, parts)?;

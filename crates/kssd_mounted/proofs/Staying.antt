@@ -133,3 +133,12 @@ down_is_up fault result is up = absurd (let e : true ≡ false = sym (device_fau
 
 pub reads_left : (old new : Flash) → OnlyReads old new → (new.image ≡ old.image) × (new.blocks ≡ old.blocks)
 reads_left old new reads = (ap (λ f. f.image) reads.after, ap (λ f. f.blocks) reads.after)
+
+-- it did no operation
+pub ops_read : (old new : Flash) → OnlyReads old new → new.ops ≡ old.ops
+ops_read old new reads = ap (λ f. f.ops) reads.after
+
+pub ops_stopped : (old new : Flash) (fault : FlashFault) → StopsReading old fault new → new.ops ≡ old.ops
+ops_stopped old new Off stops = ap (λ f. f.ops) stops.after.1
+ops_stopped old new Failed stops = ap (λ f. f.ops) stops.after.1
+ops_stopped old new Memory stops = ap (λ f. f.ops) stops.after

@@ -1,5 +1,5 @@
 // Calls that read the flash.
-ghost use Rattle.std.specs.Prelude.{◌≡◌, ◌≤◌, ◌+◌, ◌<◌, false, length, IfOk, IfSome, OnOk, IfErr};
+ghost use Rattle.std.specs.Prelude.{◌≡◌, ◌≤◌, ◌+◌, ◌<◌, false, None, length, IfOk, IfSome, IsSome, OnOk, IfErr};
 ghost use Rattle.kv_base.specs.Counts.{one_more};
 ghost use Rattle.kv_device.specs.Calls.{GetDone, IterateDone, ReadFault};
 
@@ -12,6 +12,9 @@ use kv_nand::Nand;
 use std::alloc::Global;
 
 impl Mounted {
+    ghost use Rattle.kssd_model.specs.Rising.{find_entry};
+    ghost use Rattle.kssd_tx.specs.Lists.{change_of};
+    ghost use Rattle.kssd_index.specs.Standing.{index_table};
     ghost use Rattle.kssd_mounted.specs.Standing.{Stands, Leaves, machine_at, machine_after, mounted_age, takes_down};
 
     /// The value of a key as an open transaction sees it. At most eight pages are read, and at least
@@ -32,6 +35,8 @@ impl Mounted {
         ensures kept { IfErr result (λ fault. takes_down fault ≡ false → Stands self.now (N.flash nand.new)) }
         ensures image { (N.flash nand.new).image ≡ (N.flash nand.old).image }
         ensures leaves { Leaves (N.flash nand.old) (mounted_age self.now) (N.flash nand.new) }
+        ensures below { IfOk result (λ value. IsSome value → change_of self.now.changes tx.0 key.now ≡ None → find_entry (index_table self.now.index) key.now ≡ None → one_more (N.flash nand.old).reads ≤ (N.flash nand.new).reads) }
+        ensures idle { (N.flash nand.new).ops ≡ (N.flash nand.old).ops }
     {
         if !self.changes.is_open(tx) {
             return Err(DeviceFault::NoTx);
@@ -68,6 +73,7 @@ impl Mounted {
         ensures kept { IfErr result (λ fault. takes_down fault ≡ false → Stands self.now (N.flash nand.new)) }
         ensures image { (N.flash nand.new).image ≡ (N.flash nand.old).image }
         ensures leaves { Leaves (N.flash nand.old) (mounted_age self.now) (N.flash nand.new) }
+        ensures idle { (N.flash nand.new).ops ≡ (N.flash nand.old).ops }
     {
         if !self.changes.is_open(tx) {
             return Err(DeviceFault::NoTx);

@@ -1,11 +1,12 @@
 -- A job from its begin to the anchor that names its run.
-use Rattle.std.proofs.Common.{true, false, ◌≡◌, ◌⊎◌, ◌∙◌, ℕ, ◌≤◌, ◌/◌, List, [], ◌++◌, length, refl, sym, ap, subst, arith, inl, inr, append_assoc}
-use Rattle.std.specs.Prelude.{nat_eq}
+use Rattle.std.proofs.Common.{true, false, ◌≡◌, ◌≢◌, ◌⊎◌, ◌∙◌, ℕ, ◌+◌, ◌≤◌, ◌/◌, Bool, cond, List, [], ◌∷◌, ◌++◌, length, refl, sym, ap, subst, arith, inl, inr, append_assoc}
+use Rattle.std.specs.Prelude.{nat_eq, ◌==◌}
 use Rattle.std.specs.List.{list_any}
 use Rattle.std.proofs.Math.Logic.{∥∥₁_map}
 use Rattle.std.proofs.lemmas.Bool.{false≢true}
 use Rattle.kv_nand.specs.Flash.{Image, Flash}
 use Rattle.kssd_layout.specs.Numbers.{region_in, max_keys_in}
+use Rattle.kssd_layout.specs.Laws.{pages_for, blocks_for}
 use Rattle.kssd_layout.specs.declared.region.Region.TheVariants as regions
 use Rattle.kssd_entry.specs.declared.entry.Entry.{Entry}
 use Rattle.kssd_model.specs.declared.anchor.Anchor.{Anchor}
@@ -15,17 +16,19 @@ use Rattle.kssd_image.specs.Stages.{without_marks}
 use Rattle.kssd_image.specs.AnchorForm.{blocks_of, most_entries, run_numbers}
 use Rattle.kssd_merge.specs.Same.{AreSameIn}
 use Rattle.kssd_run.specs.declared.reader.Run.{Run}
+use Rattle.kssd_run.specs.Run.{run_info}
 use Rattle.kssd_levels.specs.declared.kind.JobKind.{JobKind}
 use Rattle.kssd_levels.specs.declared.kind.JobKind.TheVariants.{Flush, Zero, One, Collect}
 use Rattle.kssd_levels.specs.declared.levels.Levels.{Levels}
 use Rattle.kssd_levels.specs.Runs.{blocks_in, has_block}
 use Rattle.kssd_levels.specs.Levels.{infos_of, levels_map, named_blocks, first_entries, inputs_of, target_of, StandLevels, Installs, Keeps}
 use Rattle.kssd_compact.specs.declared.job.Job.{Job}
-use Rattle.kssd_compact.specs.Job.{goal_of, IsStartedJob, IsMade, StandsJob, CanStepJob, job_blocks}
+use Rattle.kssd_compact.specs.Job.{goal_of, IsStartedJob, IsMade, StandsJob, CanStepJob, job_blocks, steps_most}
 use Rattle.kssd_compact.specs.Finishing.{GoesOn}
 use Rattle.kssd_compact.proofs.Jobs.{jobs_stay, blocks_of as own_blocks}
 use Rattle.kssd_compact.proofs.Installable.{runs_may_be_installed}
 use Rattle.kssd_root.specs.declared.root.Root.{Root}
+use Rattle.kssd_root.specs.Costs.{run_cost}
 use Rattle.kssd_root.specs.Standing.{IsRoot}
 use Rattle.kssd_root.specs.Following.{KeepsNamed, IsNewRun}
 use Rattle.kssd_root.specs.UnderWay.{IsUnderWay, IsFlushing}
@@ -34,7 +37,7 @@ use Rattle.kssd_root.proofs.Layers.{same_in_first, same_in_second}
 use Rattle.kssd_root.proofs.Moving.{IsRun}
 use Rattle.kssd_root.proofs.Runs.{in_region, named_is_run}
 use Rattle.kssd_root.proofs.RunsWritten.{keeps_named, regions_all}
-use Rattle.kssd_root.proofs.Written.{stands_at}
+use Rattle.kssd_root.proofs.Written.{stands_at, total_most}
 
 -- ---- it begins
 
@@ -82,6 +85,13 @@ way_beside kind job table root blocks old new same h way =
     (λ page has. same page (in_region blocks (page / 32) (job_blocks job) (regions_all blocks (job_blocks job) (own_blocks job blocks old (way_can kind job table root blocks old way))) has))
     (λ page has. same page (named_is_run blocks (page / 32) root.anchor.runs h.anchored.index.form.runs (ap (λ (infos : List RunInfo). list_any (nat_eq (page / 32)) (blocks_of infos)) (sym h.runs.named) ∙ has)))
     way
+
+-- ---- how many steps it has
+
+pub way_steps : (kind : JobKind) (job : Job) (table : List Entry) (root : Root) (blocks : ℕ) (image : Image) → IsRoot root blocks image → length table ≤ 2048 → (kind ≢ Flush → table ≡ []) → IsUnderWay kind job table root blocks image → steps_most job ≤ run_cost kind blocks
+way_steps kind job table root blocks image h few none way =
+    let most = total_most kind root.levels table blocks h.runs.stand.device_is way.over.kind_some few none way.few in
+    omega (arith, ap (λ (n : ℕ). pages_for n + blocks_for n) way.total, most)
 
 -- ---- some steps are done
 
@@ -163,3 +173,13 @@ pub flush_run : (job : Job) (run : Run) (later : Anchor) (root : Root) (levels :
     → IsRun Flush flush.table root blocks image (record root { levels = levels }) image
 flush_run job run later root levels blocks image h flush made installs keeps =
     job_run Flush job run flush.table root levels blocks image flush.few (λ e. flush.split.rising) (λ e. flush.split.keys) h flush.way made installs keeps
+
+-- ---- how many runs there are after a flush
+
+few_written : (none : Bool) (run : Run) (runs : List Run) → length (cond none [] (run ∷ []) ++ runs) ≤ length runs + 1
+few_written true run runs = omega arith
+few_written false run runs = omega arith
+
+pub one_more_run : (run : Run) (old mid new : Levels) → new ≡ mid → Installs Flush run old mid → length new.zero ≤ length old.zero + 1
+one_more_run run old mid new same installs =
+    subst (λ (runs : List Run). length runs ≤ length old.zero + 1) (sym (ap (λ (l : Levels). l.zero) same ∙ installs.0)) (few_written ((run_info run).entries == 0) run old.zero)

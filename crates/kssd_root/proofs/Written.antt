@@ -32,7 +32,7 @@ no_table (Some x) P f g = absurd (g (f refl))
 
 -- ---- how many operations a job takes
 
-total_most : (kind : JobKind) (levels : Levels) (log : List Entry) (blocks : ℕ) → blocks ≡ device_of levels → kind ≢ Collect → length log ≤ 2048 → (kind ≢ Flush → log ≡ []) → (kind ≡ Zero → first_entries levels.one ≤ 4096)
+pub total_most : (kind : JobKind) (levels : Levels) (log : List Entry) (blocks : ℕ) → blocks ≡ device_of levels → kind ≢ Collect → length log ≤ 2048 → (kind ≢ Flush → log ≡ []) → (kind ≡ Zero → first_entries levels.one ≤ 4096)
     → pages_for (inputs_total kind log levels) + blocks_for (inputs_total kind log levels) ≤ run_cost kind blocks
 total_most Flush levels log blocks device some few none low = omega arith
 total_most Zero levels log blocks device some few none low =

@@ -18,3 +18,7 @@ merge_cost kind blocks = run_cost kind blocks + 2
 -- at most so many operations make place: those of two merges and a flush with an anchor each, and a turn of the ring
 abbrev pub most_place_cost : ℕ → ℕ
 most_place_cost blocks = 33 * base_blocks_in blocks + 3062
+
+-- at most so many operations make place where level 0 has place for a run more: those of a flush with its anchor, and a turn of the ring
+abbrev pub usual_place_cost : ℕ
+usual_place_cost = 240

@@ -12,7 +12,7 @@ ghost use Rattle.kssd_levels.specs.Levels.{levels_map, named_blocks, infos_of, d
 ghost use Rattle.kssd_compact.specs.Starting.{frozen_entries};
 ghost use Rattle.kssd_root.specs.Standing.{IsAnchored, IsRoot, EndsAt, table_of};
 ghost use Rattle.kssd_root.specs.Mapping.{IsKept};
-ghost use Rattle.kssd_root.specs.Costs.{run_cost, merge_cost, most_place_cost};
+ghost use Rattle.kssd_root.specs.Costs.{run_cost, merge_cost, most_place_cost, usual_place_cost};
 ghost use Rattle.kssd_root.specs.Following.{KeepsNamed, following, MayFollow, MayBegin, with_table, ShowAlike, with_log, IsSplit, SameLog, IsCleanBlock};
 
 use crate::running::write_run;
@@ -179,6 +179,7 @@ impl Root {
         ensures aged { age_in (N.flash nand.new).image ≤ age_by (N.flash nand.old).image self.old.anchor + 2 }
         ensures works { OnOk result (Works (N.flash nand.old) (N.flash nand.new) (merge_cost JobKind.One (N.flash nand.old).blocks + merge_cost JobKind.Zero (N.flash nand.old).blocks) (2 ^ 64)) }
         ensures stops { IfErr result (λ fault. Stops (N.flash nand.old) fault (N.flash nand.new) (merge_cost JobKind.One (N.flash nand.old).blocks + merge_cost JobKind.Zero (N.flash nand.old).blocks) (2 ^ 64)) }
+        ensures idle { length self.old.levels.zero ≤ 3 → (N.flash nand.new).ops ≡ (N.flash nand.old).ops }
     {
         if self.levels.level(0).len() < MAX_ZERO {
             return Ok(());
@@ -322,6 +323,7 @@ impl Root {
         ensures aged { age_in (N.flash nand.new).image ≤ age_by (N.flash nand.old).image self.old.anchor + 3 }
         ensures works { OnOk result (Works (N.flash nand.old) (N.flash nand.new) (most_place_cost (N.flash nand.old).blocks) (2 ^ 64)) }
         ensures stops { IfErr result (λ fault. Stops (N.flash nand.old) fault (N.flash nand.new) (most_place_cost (N.flash nand.old).blocks) (2 ^ 64)) }
+        ensures usual { length self.old.levels.zero ≤ 3 → (N.flash nand.new).ops ≤ (N.flash nand.old).ops + usual_place_cost }
     {
         if table.len() == 0 {
             let ring = self.begin_log(alloc, nand, last_block, next_seq)?;

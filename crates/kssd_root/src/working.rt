@@ -87,6 +87,7 @@ impl Root {
         ensures root { OnOk result (IsRoot self.new (N.flash nand.new).blocks (N.flash nand.new).image) }
         ensures log { OnOk result (SameLog (with_log self.old.anchor log_block log_seq) (N.flash nand.old).image self.new.anchor (N.flash nand.new).image) }
         ensures one { OnOk result (self.new.levels.one ≡ self.old.levels.one) }
+        ensures zero { OnOk result (length self.new.levels.zero ≤ length self.old.levels.zero + 1) }
         ensures kept { IsKept (N.flash nand.old).blocks (N.flash nand.old).image (N.flash nand.new).image }
         ensures aged { age_in (N.flash nand.new).image ≤ age_by (N.flash nand.old).image self.old.anchor + 1 }
         ensures works { OnOk result (Works (N.flash nand.old) (N.flash nand.new) 2 32) }

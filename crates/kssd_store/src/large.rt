@@ -5,7 +5,8 @@ ghost use Rattle.kv_device.specs.Calls.{SetDone, set_refusal};
 ghost use Rattle.kssd_image.specs.Stages.{objects_in};
 ghost use Rattle.kssd_mounted.specs.Standing.{Stands, Leaves, mounted_age, machine_at};
 ghost use Rattle.kssd_collect.specs.Costs.{most_collect_reads};
-ghost use Rattle.kssd_store.specs.Setting.{most_set_cost};
+ghost use Rattle.kssd_store.specs.Setting.{most_set_cost, usual_set_cost};
+ghost use Rattle.kssd_index.specs.Costs.{zero_runs};
 
 use crate::putting::put_value;
 use crate::room::make_room;
@@ -35,6 +36,7 @@ pub fn set_large<N: Nand>(
     ensures leaves { Leaves (N.flash nand.old) (mounted_age mounted.old + 2 ^ 10) (N.flash nand.new) }
     ensures works { OnOk result (Works (N.flash nand.old) (N.flash nand.new) (most_set_cost (N.flash nand.old).blocks) most_collect_reads) }
     ensures stops { IfErr result (λ fault. Stops (N.flash nand.old) fault (N.flash nand.new) (most_set_cost (N.flash nand.old).blocks) most_collect_reads) }
+    ensures usual { zero_runs mounted.old.index ≤ 3 → (N.flash nand.new).ops ≤ (N.flash nand.old).ops + usual_set_cost }
 {
     make_room(alloc, nand, mounted)?;
     put_value(alloc, nand, mounted, tx, key, value)?;

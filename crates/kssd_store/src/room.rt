@@ -4,7 +4,8 @@ ghost use Rattle.kv_nand.specs.Working.{Works, Stops};
 ghost use Rattle.kssd_image.specs.Stages.{objects_in};
 ghost use Rattle.kssd_values.specs.Blocks.{free_room};
 ghost use Rattle.kssd_mounted.specs.Standing.{Stands, Leaves, mounted_age, machine_at};
-ghost use Rattle.kssd_collect.specs.Costs.{most_collect_cost, most_collect_reads};
+ghost use Rattle.kssd_collect.specs.Costs.{most_collect_cost, most_collect_reads, usual_collect_cost};
+ghost use Rattle.kssd_index.specs.Costs.{zero_runs};
 
 use kssd_collect::collect;
 use kssd_mounted::Mounted;
@@ -27,6 +28,7 @@ pub fn make_room<N: Nand>(
     ensures leaves { Leaves (N.flash nand.old) (mounted_age mounted.old + 2 ^ 10) (N.flash nand.new) }
     ensures works { OnOk result (Works (N.flash nand.old) (N.flash nand.new) (most_collect_cost (N.flash nand.old).blocks) most_collect_reads) }
     ensures stops { IfErr result (λ fault. Stops (N.flash nand.old) fault (N.flash nand.new) (most_collect_cost (N.flash nand.old).blocks) most_collect_reads) }
+    ensures usual { zero_runs mounted.old.index ≤ 3 → (N.flash nand.new).ops ≤ (N.flash nand.old).ops + usual_collect_cost }
 {
     if mounted.values.free_pages() == 0 {
         return collect(alloc, nand, mounted);

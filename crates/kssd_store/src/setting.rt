@@ -2,7 +2,8 @@
 ghost use Rattle.std.specs.Prelude.{◌≡◌, ◌≤◌, ◌+◌, ◌^◌, false, length, OnOk, IfErr};
 ghost use Rattle.kv_device.specs.Calls.{SetDone, SetFault};
 ghost use Rattle.kssd_mounted.specs.Standing.{Stands, Leaves, mounted_age, machine_at, machine_after, takes_down};
-ghost use Rattle.kssd_store.specs.Setting.{set_rise, most_set_cost};
+ghost use Rattle.kssd_store.specs.Setting.{set_rise, most_set_cost, usual_set_cost};
+ghost use Rattle.kssd_index.specs.Costs.{zero_runs};
 
 use crate::large::set_large;
 use crate::refusing::refusal;
@@ -40,6 +41,7 @@ pub fn set<N: Nand>(
     ensures quiet { length value.now ≤ 128 → N.flash nand.new ≡ N.flash nand.old }
     ensures quiet_refused { IfErr result (λ fault. takes_down fault ≡ false → N.flash nand.new ≡ N.flash nand.old) }
     ensures few { (N.flash nand.new).ops ≤ (N.flash nand.old).ops + most_set_cost (N.flash nand.old).blocks }
+    ensures usual { zero_runs mounted.old.index ≤ 3 → (N.flash nand.new).ops ≤ (N.flash nand.old).ops + usual_set_cost }
 {
     if let Some(fault) = refusal(&mounted.changes, tx, key, value) {
         return Err(fault);

@@ -1,5 +1,5 @@
 // The value of a key.
-ghost use Rattle.std.specs.Prelude.{◌≡◌, ◌≤◌, ◌+◌, ◌<◌, true, length, None, IfOk, IfSome, OnOk, IfErr};
+ghost use Rattle.std.specs.Prelude.{◌≡◌, ◌≤◌, ◌+◌, ◌<◌, true, length, None, IfOk, IfSome, IsSome, OnOk, IfErr};
 ghost use Rattle.std.specs.List.{list_all};
 ghost use Rattle.std.specs.FinMap as objects;
 ghost use Rattle.kv_base.specs.Counts.{one_more};
@@ -9,8 +9,9 @@ ghost use Rattle.kssd_model.specs.Rising.{find_entry};
 ghost use Rattle.kssd_image.specs.Stages.{shown_in};
 ghost use Rattle.kssd_image.specs.Whole.{has_its_value};
 ghost use Rattle.kssd_tx.specs.Refusals.{tx_refusal};
+ghost use Rattle.kssd_tx.specs.Lists.{change_of};
 ghost use Rattle.kssd_values.specs.Blocks.{device_of};
-ghost use Rattle.kssd_index.specs.Standing.{IsIndex};
+ghost use Rattle.kssd_index.specs.Standing.{IsIndex, index_table};
 ghost use Rattle.kssd_machine.specs.Names.{are_rising, are_valued};
 ghost use Rattle.kssd_machine.specs.Machines.{machine_of};
 ghost use Rattle.kssd_views.specs.Seen.{seen_value};
@@ -46,6 +47,7 @@ pub fn get<N: Nand>(
     ensures one { IfOk result (λ value. IfSome value (λ bytes. 128 < length bytes → one_more (N.flash nand.old).reads ≤ (N.flash nand.new).reads)) }
     ensures few { (N.flash nand.new).reads ≤ (N.flash nand.old).reads + 8 }
     ensures err { IfErr result (λ fault. StopsReading (N.flash nand.old) fault (N.flash nand.new)) }
+    ensures below { IfOk result (λ value. IsSome value → change_of changes.now tx.0 key.now ≡ None → find_entry (index_table index.now) key.now ≡ None → one_more (N.flash nand.old).reads ≤ (N.flash nand.new).reads) }
 {
     match changes.find(tx, key) {
         Some(entry) => {
@@ -75,6 +77,7 @@ fn visible_value<N: Nand>(
     ensures one { IfOk result (λ value. IfSome value (λ bytes. 128 < length bytes → one_more (N.flash nand.old).reads ≤ (N.flash nand.new).reads)) }
     ensures few { (N.flash nand.new).reads ≤ (N.flash nand.old).reads + 7 }
     ensures err { IfErr result (λ fault. StopsReading (N.flash nand.old) fault (N.flash nand.new)) }
+    ensures below { IfOk result (λ value. IsSome value → find_entry (index_table index.now) key.now ≡ None → one_more (N.flash nand.old).reads ≤ (N.flash nand.new).reads) }
 {
     let found = index.find(alloc, nand, key)?;
     match found {

@@ -10,7 +10,7 @@ use Rattle.kssd_levels.specs.declared.kind.JobKind.{JobKind}
 use Rattle.kssd_levels.specs.declared.kind.JobKind.TheVariants.{Flush, Zero, One, Collect}
 use Rattle.kssd_root.proofs.Steps.{works_on, stops_on}
 use Rattle.kssd_index.specs.Standing.{has_frozen}
-use Rattle.kssd_index.specs.Working.{due_in}
+use Rattle.kssd_index.specs.Working.{due_in, work_ahead}
 use Rattle.kssd_index.proofs.Anchored.{aged_still}
 use Rattle.kssd_index.proofs.JobSteps.{none_frozen, never_collected}
 use Rattle.kssd_values.specs.declared.filling.Filling.{Filling}
@@ -25,7 +25,8 @@ use Rattle.kssd_mounted.specs.declared.mounted.Mounted.{Mounted}
 use Rattle.kssd_mounted.specs.Standing.{Stands, Leaves, mounted_age, machine_at}
 use Rattle.kssd_collect.specs.Collecting.{IsBusy, FreesBlock, EndsInFew}
 use Rattle.kssd_collect.specs.Due.{MayBegin, IsCollectionDue}
-use Rattle.kssd_work.specs.Working.{IsDue, HasDone, IsWorked, IsCounted, IsFreed, HasEnded, IsAsBefore}
+use Rattle.kssd_work.specs.Working.{IsDue, HasDone, IsWorked, IsCounted, IsFreed, HasEnded, IsAsBefore, IsPaid, enough_work}
+use Rattle.kssd_work.proofs.Paid.{HasPaid, first_paid, more_paid, paid_last}
 
 -- ---- operations
 
@@ -169,6 +170,7 @@ pub record IsGoingOn (m : Mounted) (old : Flash) (operations i left : ℕ) (n : 
   pub works : Works old now (operations - left) (2 ^ 64)
   pub counted : IsCounted old operations left n now
   pub round : IsRound i n
+  pub paid : HasPaid old.blocks operations i left n
   pub idle : IsDue m None → IsAsBefore m old n now
 
 pub going_first : (m : Mounted) (flash : Flash) (operations : ℕ) → IsSound flash → Stands m flash → IsGoingOn m flash operations 0 operations m flash
@@ -184,6 +186,7 @@ going_first m flash operations sound stands =
       works = works_within flash flash 0 0 (operations - operations) (2 ^ 64) (works_still flash) (omega arith) (omega arith);
       counted = inl (subst (λ (n : ℕ). flash.ops ≡ ops_more flash n) none (works_no_ops flash flash 0 sound (works_still flash)));
       round = inl refl;
+      paid = first_paid m flash.blocks operations;
       idle = λ nothing. record { mounted = refl; flash = refl };
     }
 
@@ -197,6 +200,7 @@ pub record IsRoundDone (operations left : ℕ) (m : Mounted) (old : Flash) (n : 
   pub works : Works old now (operations - left) (2 ^ 64)
   pub counted : IsCounted old operations left n now
   pub ended : HasEnded m n
+  pub paid : IsPaid m old.blocks operations left n
   pub due : (IsCollectionDue m → ⊥) → ⊥
 
 pub going_on : (m0 : Mounted) (f0 : Flash) (operations i left more : ℕ) (m n : Mounted) (old now : Flash) → IsSound now → IsGoingOn m0 f0 operations i left m old → IsRoundDone left more m old n now → IsGoingOn m0 f0 operations (i + 1) more n now
@@ -219,6 +223,7 @@ going_on m0 f0 operations i left more m n old now sound h done =
         | inr spent ↦ absurd (done.due spent.0)
       ];
       round = next_round i m n h.round done.ended;
+      paid = more_paid m n f0.blocks operations i left more h.paid (subst (λ (b : ℕ). IsPaid m b left more n) (works_blocks f0 old _ _ h.works) done.paid) done.due;
       idle = λ nothing. absurd (done.due (subst (λ (x : Mounted). IsCollectionDue x → ⊥) (sym (h.idle nothing).mounted) nothing.1));
     }
 
@@ -227,9 +232,9 @@ abbrev pub IsSpent : Option ℕ → Flash → ℕ → Mounted → Flash → Type
 IsSpent answer old operations n new = (answer ≡ None) × (IsDue n None ⊎ HasDone old operations 1 new)
 
 pub round_done : (m n : Mounted) (old now : Flash) (operations more : ℕ) (answer : Option ℕ) → answer ≡ Some more → Stands n now → machine_at now n ≡ machine_at old m → mounted_age n ≤ mounted_age m + 768 → objects_in now.image ≡ objects_in old.image → unwrap_or answer 0 ≤ operations
-    → Works old now (operations - unwrap_or answer 0) (2 ^ 64) → MatchOption answer (IsWorked old operations n now) (λ _. HasEnded m n) → IfSome answer (λ k. IsCounted old operations k n now) → ((IsCollectionDue m → ⊥) → IsSpent answer old operations n now)
+    → Works old now (operations - unwrap_or answer 0) (2 ^ 64) → MatchOption answer (IsWorked old operations n now) (λ _. HasEnded m n) → IfSome answer (λ k. IsCounted old operations k n now) → ((IsCollectionDue m → ⊥) → IsSpent answer old operations n now) → IfSome answer (λ k. IsPaid m old.blocks operations k n)
     → IsRoundDone operations more m old n now
-round_done m n old now operations more answer is stands machine ages objects few works ended counted spent = record {
+round_done m n old now operations more answer is stands machine ages objects few works ended counted spent paid = record {
   stands = stands;
   machine = machine;
   ages = ages;
@@ -238,6 +243,7 @@ round_done m n old now operations more answer is stands machine ages objects few
   works = subst (λ (o : Option ℕ). Works old now (operations - unwrap_or o 0) (2 ^ 64)) is works;
   counted = subst (λ (o : Option ℕ). IfSome o (λ k. IsCounted old operations k n now)) is counted;
   ended = subst (λ (o : Option ℕ). MatchOption o (IsWorked old operations n now) (λ _. HasEnded m n)) is ended;
+  paid = subst (λ (o : Option ℕ). IfSome o (λ k. IsPaid m old.blocks operations k n)) is paid;
   due = λ nothing. let e : true ≡ false = ap (λ (o : Option ℕ). is_some o) (sym is ∙ (spent nothing).0) in absurd cc;
 }
 
@@ -256,6 +262,11 @@ worked_last m m0 n f0 old now operations i left answer is h ended spent = elim h
     | inr done ↦ inr (done_after f0 old now operations left 3 1 h.few less.1 done)
   ]
 ]
+
+-- with enough operations nothing is due
+pub done_last : (m m0 n : Mounted) (f0 old : Flash) (operations i left : ℕ) (answer : Option ℕ) → answer ≡ None → IsGoingOn m0 f0 operations i left m old → (answer ≡ None → IsDue n None ⊎ (left < work_ahead m.index old.blocks + 37)) → enough_work f0.blocks ≤ operations → IsDue n None
+done_last m m0 n f0 old operations i left answer is h enough many =
+    paid_last m n f0.blocks operations i left h.rounds h.paid (subst (λ (b : ℕ). IsDue n None ⊎ (left < work_ahead m.index b + 37)) (works_blocks f0 old _ _ h.works) (enough is)) many
 
 pub idle_last : (m m0 n : Mounted) (f0 old now : Flash) (operations i left : ℕ) (answer : Option ℕ) → IsGoingOn m0 f0 operations i left m old → (IsDue m None → (answer ≡ None) × IsAsBefore m old n now) → IsDue m0 None → IsAsBefore m0 f0 n now
 idle_last m m0 n f0 old now operations i left answer h idle nothing =

@@ -1,12 +1,15 @@
 -- What is due between calls, and when work is done.
-use Rattle.std.specs.Prelude.{◌≡◌, ◌⊎◌, ◌≤◌, ◌+◌, ◌-◌, ℕ, false, Option, Some, None}
+use Rattle.std.specs.Prelude.{◌≡◌, ◌⊎◌, ◌≤◌, ◌+◌, ◌-◌, ◌*◌, ℕ, false, Option, Some, None}
 use Rattle.kv_nand.specs.Flash.{Flash}
 use Rattle.kv_nand.specs.Working.{ops_more}
 use Rattle.kssd_values.specs.declared.values.Values.{Values}
 use Rattle.kssd_values.specs.Blocks.{has_target, free_count}
 use Rattle.kssd_levels.specs.declared.kind.JobKind.{JobKind}
 use Rattle.kssd_levels.specs.declared.kind.JobKind.TheVariants.{Flush, Zero, One, Collect}
-use Rattle.kssd_index.specs.Working.{due_in}
+use Rattle.kssd_layout.specs.Numbers.{base_blocks_in}
+use Rattle.kssd_root.specs.Costs.{merge_cost}
+use Rattle.kssd_index.specs.Standing.{index_root}
+use Rattle.kssd_index.specs.Working.{due_in, work_ahead}
 use Rattle.kssd_mounted.specs.declared.mounted.Mounted.{Mounted}
 use Rattle.kssd_collect.specs.Due.{MayBegin, IsCollectionDue}
 
@@ -45,3 +48,23 @@ pub record HasEnded (old new : Mounted) : Type 0 where
   pub over : new.collection ≡ None
   pub began : old.collection ≡ None → MayBegin old.values
   pub free : MayBegin new.values → old.collection ≡ None → free_count new.values ≡ free_count old.values + 1
+
+-- ---- how many operations do all that is due
+
+-- so many operations are enough, whatever is due
+abbrev pub enough_work : ℕ → ℕ
+enough_work blocks = 64 * (118 + 2 * base_blocks_in blocks) + 256
+
+-- what one job of each kind takes that writes a run
+abbrev pub each_once : ℕ → ℕ
+each_once blocks = merge_cost Flush blocks + merge_cost Zero blocks + merge_cost One blocks
+
+-- a collection that has ended left the index as it was; or its root, and no collection is due
+abbrev pub LeavesIndex : Mounted → Mounted → Type 0
+LeavesIndex old new = (new.index ≡ old.index) ⊎ ((IsCollectionDue new → ⊥) × (index_root new.index ≡ index_root old.index))
+
+-- a round took what was ahead and 37 operations at most; or no collection is due, and at most one job of each kind is ahead beyond that
+abbrev pub IsPaid : Mounted → ℕ → ℕ → ℕ → Mounted → Type 0
+IsPaid old blocks operations left new =
+    ((operations - left) + work_ahead new.index blocks ≤ work_ahead old.index blocks + 37)
+    ⊎ ((IsCollectionDue new → ⊥) × ((operations - left) + work_ahead new.index blocks ≤ work_ahead old.index blocks + 37 + each_once blocks))

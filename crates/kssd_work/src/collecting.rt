@@ -1,5 +1,5 @@
 // A collection, as far as the operations go.
-ghost use Rattle.std.specs.Prelude.{◌≡◌, ◌≤◌, ◌+◌, ◌-◌, ◌^◌, false, None, unwrap_or, MatchOption, IfOk, IfSome, OnOk, IfErr};
+ghost use Rattle.std.specs.Prelude.{◌≡◌, ◌⊎◌, ◌≤◌, ◌<◌, ◌+◌, ◌-◌, ◌^◌, false, None, unwrap_or, MatchOption, IfOk, IfSome, OnOk, IfErr};
 ghost use Rattle.kv_nand.specs.Working.{Works, Stops};
 ghost use Rattle.kssd_image.specs.Stages.{objects_in};
 ghost use Rattle.kssd_index.specs.Standing.{has_frozen};
@@ -7,7 +7,7 @@ ghost use Rattle.kssd_index.specs.Working.{due_in};
 ghost use Rattle.kssd_mounted.specs.Standing.{Stands, Leaves, mounted_age, machine_at};
 ghost use Rattle.kssd_collect.specs.Collecting.{IsCopied};
 ghost use Rattle.kssd_collect.specs.Due.{IsCollectionDue};
-ghost use Rattle.kssd_work.specs.Working.{IsWorked, IsCounted, IsFreed, HasEnded, IsAsBefore};
+ghost use Rattle.kssd_work.specs.Working.{IsDue, IsWorked, IsCounted, IsFreed, HasEnded, IsAsBefore, LeavesIndex};
 
 use kssd_collect::{collection_due, copy_block, finish, take_up};
 use kssd_mounted::Mounted;
@@ -39,6 +39,9 @@ pub fn collect_block<N: Nand>(
     ensures stops { IfErr result (λ fault. Stops (N.flash nand.old) fault (N.flash nand.new) operations (2 ^ 65)) }
     ensures ended { IfOk result (λ left. MatchOption left (IsWorked (N.flash nand.old) operations mounted.new (N.flash nand.new)) (λ _. HasEnded mounted.old mounted.new)) }
     ensures counted { IfOk result (λ left. IfSome left (λ more. IsCounted (N.flash nand.old) operations more mounted.new (N.flash nand.new))) }
+    ensures soon { IfOk result (λ left. IfSome left (λ more. operations ≤ more + 37)) }
+    ensures index { IfOk result (λ left. IfSome left (λ _. LeavesIndex mounted.old mounted.new)) }
+    ensures enough { IfOk result (λ left. left ≡ None → IsDue mounted.new None ⊎ (operations < 37)) }
     ensures idle { (IsCollectionDue mounted.old → ⊥) → IfOk result (λ left. (left ≡ None) × IsAsBefore mounted.old (N.flash nand.old) mounted.new (N.flash nand.new)) }
 {
     if operations == 0 {
@@ -79,6 +82,9 @@ fn end_block<N: Nand>(
     ensures stops { IfErr result (λ fault. Stops (N.flash nand.old) fault (N.flash nand.new) operations (2 ^ 64)) }
     ensures ended { IfOk result (λ left. MatchOption left (IsWorked (N.flash nand.old) operations mounted.new (N.flash nand.new)) (λ _. IsFreed mounted.old.values mounted.new)) }
     ensures counted { IfOk result (λ left. IfSome left (λ more. IsCounted (N.flash nand.old) operations more mounted.new (N.flash nand.new))) }
+    ensures soon { IfOk result (λ left. IfSome left (λ more. operations ≤ more + 4)) }
+    ensures index { IfOk result (λ left. IfSome left (λ _. LeavesIndex mounted.old mounted.new)) }
+    ensures enough { IfOk result (λ left. left ≡ None → operations < 4) }
 {
     if operations == 0 {
         mounted.collection = Some(reclaim);

@@ -1,10 +1,11 @@
 // The work between calls.
-ghost use Rattle.std.specs.Prelude.{◌≡◌, ◌⊎◌, ◌≤◌, ◌+◌, ◌-◌, ◌^◌, None, unwrap_or, MatchOption, IfOk, IfSome, OnOk, IfErr};
+ghost use Rattle.std.specs.Prelude.{◌≡◌, ◌⊎◌, ◌≤◌, ◌<◌, ◌+◌, ◌-◌, ◌^◌, None, unwrap_or, MatchOption, IfOk, IfSome, OnOk, IfErr};
 ghost use Rattle.kv_nand.specs.Working.{Works, Stops};
 ghost use Rattle.kssd_image.specs.Stages.{objects_in};
+ghost use Rattle.kssd_index.specs.Working.{work_ahead};
 ghost use Rattle.kssd_mounted.specs.Standing.{Stands, Leaves, mounted_age, machine_at};
 ghost use Rattle.kssd_collect.specs.Due.{IsCollectionDue};
-ghost use Rattle.kssd_work.specs.Working.{IsDue, HasDone, IsWorked, IsCounted, HasEnded, IsAsBefore};
+ghost use Rattle.kssd_work.specs.Working.{IsDue, HasDone, IsWorked, IsCounted, HasEnded, IsAsBefore, IsPaid, enough_work};
 
 use crate::collecting::collect_block;
 use crate::writing::write_runs;
@@ -18,7 +19,8 @@ use std::alloc::Global;
 const ROUNDS: u32 = 5;
 
 /// Does what is due with at most so many operations: the flush of a frozen table and the merges first,
-/// then a collection. The device is as it was. At a fault it is down, and the objects are as they were.
+/// then a collection. The device is as it was. With 64 operations for each block of runs, and 256 more,
+/// nothing is due any more. At a fault it is down, and the objects are as they were.
 pub fn work<N: Nand>(
     alloc: Global,
     nand: &mut N,
@@ -35,6 +37,7 @@ pub fn work<N: Nand>(
     ensures works { OnOk result (Works (N.flash nand.old) (N.flash nand.new) operations (2 ^ 68)) }
     ensures stops { IfErr result (λ fault. Stops (N.flash nand.old) fault (N.flash nand.new) operations (2 ^ 68)) }
     ensures worked { OnOk result (IsWorked (N.flash nand.old) operations mounted.new (N.flash nand.new)) }
+    ensures done { enough_work (N.flash nand.old).blocks ≤ operations → OnOk result (IsDue mounted.new None) }
     ensures idle { IsDue mounted.old None → OnOk result (IsAsBefore mounted.old (N.flash nand.old) mounted.new (N.flash nand.new)) }
 {
     let mut left = operations;
@@ -69,6 +72,8 @@ fn do_round<N: Nand>(
     ensures ended { IfOk result (λ left. MatchOption left (IsWorked (N.flash nand.old) operations mounted.new (N.flash nand.new)) (λ _. HasEnded mounted.old mounted.new)) }
     ensures counted { IfOk result (λ left. IfSome left (λ more. IsCounted (N.flash nand.old) operations more mounted.new (N.flash nand.new))) }
     ensures spent { (IsCollectionDue mounted.old → ⊥) → IfOk result (λ left. (left ≡ None) × (IsDue mounted.new None ⊎ HasDone (N.flash nand.old) operations 1 (N.flash nand.new))) }
+    ensures paid { IfOk result (λ left. IfSome left (λ more. IsPaid mounted.old (N.flash nand.old).blocks operations more mounted.new)) }
+    ensures enough { IfOk result (λ left. left ≡ None → IsDue mounted.new None ⊎ (operations < work_ahead mounted.old.index (N.flash nand.old).blocks + 37)) }
     ensures idle { IsDue mounted.old None → IfOk result (λ left. (left ≡ None) × IsAsBefore mounted.old (N.flash nand.old) mounted.new (N.flash nand.new)) }
 {
     let left = write_runs(alloc, nand, mounted, operations)?;

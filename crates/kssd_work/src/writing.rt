@@ -2,7 +2,7 @@
 ghost use Rattle.std.specs.Prelude.{◌≡◌, ◌⊎◌, ◌≤◌, ◌<◌, ◌+◌, ◌-◌, ◌^◌, None, IfOk, OnOk, IfErr};
 ghost use Rattle.kv_nand.specs.Working.{Works, Stops, ops_more};
 ghost use Rattle.kssd_image.specs.Stages.{objects_in};
-ghost use Rattle.kssd_index.specs.Working.{due_in};
+ghost use Rattle.kssd_index.specs.Working.{due_in, work_ahead};
 ghost use Rattle.kssd_mounted.specs.Standing.{Stands, Leaves, mounted_age, machine_at};
 ghost use Rattle.kssd_work.specs.Working.{IsAsBefore};
 
@@ -30,6 +30,7 @@ pub fn write_runs<N: Nand>(
     ensures works { IfOk result (λ left. Works (N.flash nand.old) (N.flash nand.new) (operations - left) (2 ^ 64)) }
     ensures exact { IfOk result (λ left. (N.flash nand.new).ops ≡ ops_more (N.flash nand.old) (operations - left)) }
     ensures stops { IfErr result (λ fault. Stops (N.flash nand.old) fault (N.flash nand.new) operations (2 ^ 64)) }
+    ensures bounded { IfOk result (λ left. operations - left ≤ work_ahead mounted.old.index (N.flash nand.old).blocks) }
     ensures whole { IfOk result (λ left. (left < 2) ⊎ (due_in mounted.new.index ≡ None)) }
     ensures idle { due_in mounted.old.index ≡ None → IsAsBefore mounted.old (N.flash nand.old) mounted.new (N.flash nand.new) × IfOk result (λ left. left ≡ operations) }
 {

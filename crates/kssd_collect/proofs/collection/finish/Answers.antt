@@ -1,8 +1,9 @@
-use Rattle.std.proofs.Common.{◌≡◌, ◌∙◌, ◌+◌, ◌^◌, subst, arith}
+use Rattle.std.proofs.Common.{◌≡◌, ◌∙◌, ◌+◌, ◌^◌, ap, subst, arith}
 use Rattle.std.proofs.lemmas.Result.{err_from_is_err_and}
 use Rattle.kv_nand.specs.Flash.{Flash}
 use Rattle.kv_nand.specs.Working.{Works, ops_more}
 use Rattle.kv_nand.proofs.Chaining.{works_then_stops, stops_within}
+use Rattle.kssd_index.specs.Standing.{index_root}
 use Rattle.kssd_collect.proofs.Kept.{frees_since}
 use Rattle.kssd_collect.proofs.Logged.{ends_in_few}
 use Rattle.kssd_collect.proofs.collection.finish.Goals as goal
@@ -55,3 +56,12 @@ returns-clause-unfrozen g c none =
 
 pub returns-clause-index : goal.returns-clause-index
 returns-clause-index g c empty = c.in_ok-erase_block.ensures.index ∙ c.in_ok-name_copies.ensures.index empty
+
+pub returns-in_err-erase_block-clause-usual : goal.returns-in_err-erase_block-clause-usual
+returns-in_err-erase_block-clause-usual g c low = omega (arith, c.name_copies.ensures.usual low, c.in_err-erase_block.ensures.stops.counts.ops_at_most)
+
+pub returns-clause-usual : goal.returns-clause-usual
+returns-clause-usual g c low = omega (arith, c.name_copies.ensures.usual low, c.in_ok-erase_block.ensures.works.counts.ops_at_most)
+
+pub returns-clause-root : goal.returns-clause-root
+returns-clause-root g c none = ap index_root c.in_ok-erase_block.ensures.index ∙ c.in_ok-name_copies.ensures.root none

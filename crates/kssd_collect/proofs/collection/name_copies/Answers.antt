@@ -132,3 +132,15 @@ returns-clause-unfrozen g c none =
     let old = g.N.Nand.flash c.args.nand.now in
     let pages = group_paged c.args.reclaim.now c.args.mounted.now old c.in_ok-moves.moves (record { copied = c.requires.copied; is = c.in_ok-moves.ensures.value; fits = c.in_ok-moves.ensures.fits; sound = g.met.N.Nand.sound c.args.nand.now }) in
     c.in_ok-log_entries.ensures.unfrozen none pages
+
+pub returns-in_err-log_entries-clause-usual : goal.returns-in_err-log_entries-clause-usual
+returns-in_err-log_entries-clause-usual g c low =
+    let old = g.N.Nand.flash c.args.nand.now in
+    let pages = group_paged c.args.reclaim.now c.args.mounted.now old c.in_ok-moves.moves (record { copied = c.requires.copied; is = c.in_ok-moves.ensures.value; fits = c.in_ok-moves.ensures.fits; sound = g.met.N.Nand.sound c.args.nand.now }) in
+    c.log_entries.ensures.usual low pages
+
+pub returns-clause-usual : goal.returns-clause-usual
+returns-clause-usual g c low =
+    let old = g.N.Nand.flash c.args.nand.now in
+    let pages = group_paged c.args.reclaim.now c.args.mounted.now old c.in_ok-moves.moves (record { copied = c.requires.copied; is = c.in_ok-moves.ensures.value; fits = c.in_ok-moves.ensures.fits; sound = g.met.N.Nand.sound c.args.nand.now }) in
+    c.log_entries.ensures.usual low pages

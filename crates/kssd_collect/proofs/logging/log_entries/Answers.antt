@@ -5,6 +5,7 @@ use Rattle.kssd_index.proofs.Anchored.{aged_still}
 use Rattle.kssd_index.proofs.Beside.{index_before_still}
 use Rattle.kssd_index.specs.Costs.{group_cost}
 use Rattle.kssd_collect.proofs.Logged.{HasPlace, none_logged, few_for_group, kept_then_either, page_works, page_stops}
+use Rattle.kssd_collect.proofs.Short.{page_with_turn}
 use Rattle.kssd_collect.proofs.logging.log_entries.Goals as goal
 
 pub returns-then-len-eq0-clause-shown : goal.returns-then-len-eq0-clause-shown
@@ -56,3 +57,16 @@ returns-clause-unfrozen g c none pages =
     let found = c.in_ok-find_place.ensures in
     let has : HasPlace c.args.index.now c.find_place.new.index (flash c.args.nand.now) (flash c.find_place.new.nand) c.args.entries.now = record { still = λ place. (c.find_place.ensures.still place).0; fresh = found.fresh; stands = found.stands; works = found.unfrozen none } in
     page_works c.args.index.now c.find_place.new.index (flash c.args.nand.now) (flash c.find_place.new.nand) (flash c.append.new.nand) c.args.entries.now (g.met.N.Nand.sound c.append.new.nand) has pages c.in_ok-append.ensures.works
+
+pub returns-in_err-append-clause-usual : goal.returns-in_err-append-clause-usual
+returns-in_err-append-clause-usual g c few pages =
+    let short = page_with_turn c.find_place.new.index c.args.entries.now pages in
+    omega (arith, short, c.find_place.ensures.usual few, c.in_err-append.ensures.stops.counts.ops_at_most)
+
+pub returns-clause-usual : goal.returns-clause-usual
+returns-clause-usual g c few pages =
+    let short = page_with_turn c.find_place.new.index c.args.entries.now pages in
+    omega (arith, short, c.find_place.ensures.usual few, c.in_ok-append.ensures.works.counts.ops_at_most)
+
+pub returns-clause-root : goal.returns-clause-root
+returns-clause-root g c none = c.append.ensures.root ∙ c.in_ok-find_place.ensures.root none

@@ -1,8 +1,8 @@
 use Rattle.std.proofs.lemmas.Result.{err_from_is_err_and}
-use Rattle.kssd_root.specs.Costs.{most_place_cost}
+use Rattle.kssd_root.specs.Costs.{most_place_cost, usual_place_cost}
 use Rattle.std.proofs.Common.{◌^◌}
 use Rattle.kssd_machine.proofs.Standing.{works_same}
-use Rattle.kssd_mount.proofs.Settling.{leaves, objects_stay, idle, machine_is}
+use Rattle.kssd_mount.proofs.Settling.{usual_then, leaves, objects_stay, idle, machine_is}
 use Rattle.kssd_mount.proofs.Failing.{settling_fails}
 use Rattle.kssd_root.proofs.Logs.{has_bytes}
 use Rattle.kssd_mount.proofs.Numbers.{low_age}
@@ -79,3 +79,13 @@ returns-clause-low g c =
     let old = g.N.Nand.flash c.args.nand.now in
     let parts = c.in_ok-parts.parts in
     low_age old.blocks old.image parts.anchor_page parts.anchor (has_bytes old (g.met.N.Nand.sound c.args.nand.now)) c.in_ok-parts.ensures.ok.sound c.in_ok-parts.ensures.ok.found
+
+pub returns-in_err-mounted-clause-usual : goal.returns-in_err-mounted-clause-usual
+returns-in_err-mounted-clause-usual g c low =
+    let flash = g.N.Nand.flash in
+    usual_then (flash c.args.nand.now) (flash c.recover.new.nand) (flash c.stand_up.new.nand) usual_place_cost c.in_ok-parts.ensures.reads c.stand_up.ensures.usual low
+
+pub returns-clause-usual : goal.returns-clause-usual
+returns-clause-usual g c low =
+    let flash = g.N.Nand.flash in
+    usual_then (flash c.args.nand.now) (flash c.recover.new.nand) (flash c.stand_up.new.nand) usual_place_cost c.in_ok-parts.ensures.reads c.stand_up.ensures.usual low

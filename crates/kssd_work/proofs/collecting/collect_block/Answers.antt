@@ -4,6 +4,7 @@ use Rattle.kv_nand.proofs.Chaining.{works_blocks}
 use Rattle.kssd_index.specs.Standing.{index_age}
 use Rattle.kssd_reclaim.specs.Reclaim.{AllCopied}
 use Rattle.kssd_work.proofs.Rounds.{none_done, leaves_still, leaves_since, IsBegun, begun, few_since, works_since, stops_since, counted_more, all_since, as_many, rested_unfrozen}
+use Rattle.kssd_work.proofs.Paid.{soon_since, enough_since, index_since, copied_few, copied_part}
 use Rattle.kssd_work.proofs.collecting.collect_block.Goals as goal
 
 pub returns-then-operations-eq0-clause-leaves : goal.returns-then-operations-eq0-clause-leaves
@@ -109,3 +110,21 @@ returns-in-None-clause-leaves g c =
 
 pub returns-in-None-clause-idle : goal.returns-in-None-clause-idle
 returns-in-None-clause-idle g c nothing = absurd (nothing (c.collection_due.ensures.0 c.if-not-collection_due.false))
+
+pub returns-then-operations-eq0-clause-enough : goal.returns-then-operations-eq0-clause-enough
+returns-then-operations-eq0-clause-enough g c none = inr (omega (arith, c.if-operations-eq0.true))
+
+pub returns-then-not-collection_due-clause-enough : goal.returns-then-not-collection_due-clause-enough
+returns-then-not-collection_due-clause-enough g c none = inl (c.requires.rested, λ due. let is = c.collection_due.ensures.1 due in let isn't = c.if-not-collection_due.true in absurd cc)
+
+pub returns-in-Some-clause-soon : goal.returns-in-Some-clause-soon
+returns-in-Some-clause-soon g c = soon_since c.args.operations c.in-Some.left (copied_few c.args.operations c.in-Some.left _ c.in-Some.is c.in_ok-left.ensures.most) c.end_block.result c.end_block.ensures.soon
+
+pub returns-in-Some-clause-index : goal.returns-in-Some-clause-index
+returns-in-Some-clause-index g c = index_since c.args.mounted.now c.copy_block.new.mounted c.end_block.new.mounted (c.copy_block.ensures.index ∙ c.take_up.ensures.index) c.end_block.result c.end_block.ensures.index
+
+pub returns-in-Some-clause-enough : goal.returns-in-Some-clause-enough
+returns-in-Some-clause-enough g c = enough_since c.end_block.new.mounted c.args.operations c.in-Some.left (copied_few c.args.operations c.in-Some.left _ c.in-Some.is c.in_ok-left.ensures.most) c.end_block.result c.end_block.ensures.enough
+
+pub returns-in-None-clause-enough : goal.returns-in-None-clause-enough
+returns-in-None-clause-enough g c none = inr (copied_part c.args.operations _ c.in-None.is c.in_ok-left.ensures.most)

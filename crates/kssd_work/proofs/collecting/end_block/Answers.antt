@@ -2,7 +2,7 @@ use Rattle.std.proofs.Common.{◌≡◌, ◌∙◌, ℕ, ◌-◌, ◌≤◌, ◌
 use Rattle.std.proofs.lemmas.Result.{err_from_is_err_and}
 use Rattle.kv_nand.specs.Working.{ops_more}
 use Rattle.kv_nand.proofs.Chaining.{works_within, stops_within}
-use Rattle.kssd_work.proofs.Rounds.{none_done, busy_leaves, freed, nothing_copied, some_copied, copied_counted}
+use Rattle.kssd_work.proofs.Rounds.{none_done, busy_leaves, freed, nothing_copied, some_copied, copied_none_due, copied_counted}
 use Rattle.kssd_work.proofs.collecting.end_block.Goals as goal
 
 pub returns-then-operations-eq0-clause-leaves : goal.returns-then-operations-eq0-clause-leaves
@@ -69,3 +69,16 @@ returns-clause-counted g c =
     let new = g.N.Nand.flash c.finish-2.new.nand in
     let some = some_copied c.args.reclaim c.as_slice.result.now (c.as_slice.ensures ∙ c.copies.ensures.copies) (sym c.is_empty.ensures ∙ c.if-is_empty.false) in
     copied_counted c.args.reclaim c.args.mounted.now.values c.finish-2.new.mounted old new c.args.operations c.requires.copied.copies.few some c.in_ok-finish-2.ensures.over c.in_ok-finish-2.ensures.frees (omega (arith, c.if-operations-lt-FINISH_OPERATIONS.false)) (c.in_ok-finish-2.ensures.unfrozen c.requires.unfrozen)
+
+pub returns-then-is_empty-clause-index : goal.returns-then-is_empty-clause-index
+returns-then-is_empty-clause-index g c =
+    let empty = nothing_copied c.args.reclaim c.as_slice.result.now (c.as_slice.ensures ∙ c.copies.ensures.copies) (sym c.is_empty.ensures ∙ c.if-is_empty.true) in
+    inl (c.in_ok-finish.ensures.index empty)
+
+pub returns-clause-soon : goal.returns-clause-soon
+returns-clause-soon g c = omega (arith, c.if-operations-lt-FINISH_OPERATIONS.false)
+
+pub returns-clause-index : goal.returns-clause-index
+returns-clause-index g c =
+    let some = some_copied c.args.reclaim c.as_slice.result.now (c.as_slice.ensures ∙ c.copies.ensures.copies) (sym c.is_empty.ensures ∙ c.if-is_empty.false) in
+    inr (copied_none_due c.args.reclaim c.args.mounted.now.values c.finish-2.new.mounted c.requires.copied.copies.few some c.in_ok-finish-2.ensures.over c.in_ok-finish-2.ensures.frees, c.in_ok-finish-2.ensures.root c.requires.unfrozen)

@@ -3,6 +3,7 @@ use Rattle.std.proofs.lemmas.Result.{err_from_is_err_and}
 use Rattle.kv_nand.proofs.Chaining.{works_blocks, works_within}
 use Rattle.kssd_levels.specs.declared.kind.JobKind.{JobKind}
 use Rattle.kssd_work.proofs.Rounds.{AreWritten, none_from, leaves_since, due_ended, more_done, few_then, works_then, stops_then, ended_then, counted_then, spent_then, idle_then}
+use Rattle.kssd_work.proofs.Paid.{few_ahead, paid_then, enough_then}
 use Rattle.kssd_work.proofs.working.do_round.Goals as goal
 
 pub returns-in_err-left-clause-leaves : goal.returns-in_err-left-clause-leaves
@@ -164,3 +165,17 @@ returns-clause-idle g c nothing =
     let wrote = c.in_ok-left.ensures in
     let h : AreWritten m old c.args.operations c.in_ok-left.left n mid = record { rest = c.write_runs.ensures.rest; few = wrote.few; works = wrote.works; exact = wrote.exact } in
     idle_then m n o old mid new c.in_ok-more.more (c.write_runs.ensures.idle nothing.0).0 c.in_ok-more.ensures.idle nothing
+
+pub returns-then-is_some-clause-enough : goal.returns-then-is_some-clause-enough
+returns-then-is_some-clause-enough g c none =
+    let due = ap (λ (j : Option JobKind). is_some j) (sym c.due.ensures) ∙ sym c.is_some.ensures ∙ c.if-is_some.true in
+    inr (few_ahead c.write_runs.new.mounted.index c.args.operations c.in_ok-left.left _ c.in_ok-left.ensures.whole due c.in_ok-left.ensures.bounded)
+
+pub returns-clause-paid : goal.returns-clause-paid
+returns-clause-paid g c =
+    let rested = sym c.due.ensures ∙ none_from c.due.result (sym c.is_some.ensures ∙ c.if-is_some.false) in
+    paid_then c.args.mounted.now c.write_runs.new.mounted c.collect_block.new.mounted _ c.args.operations c.in_ok-left.left c.in_ok-more.more c.in_ok-left.ensures.bounded rested c.in_ok-more.ensures.soon c.in_ok-more.ensures.index
+
+pub returns-clause-enough : goal.returns-clause-enough
+returns-clause-enough g c none =
+    enough_then c.collect_block.new.mounted c.args.operations c.in_ok-left.left _ c.in_ok-more.more c.in_ok-left.ensures.bounded c.in_ok-more.ensures.enough none

@@ -1,6 +1,6 @@
 use Rattle.std.proofs.Common.{◌∙◌, arith}
 use Rattle.std.proofs.lemmas.Result.{err_from_is_err_and}
-use Rattle.kssd_work.proofs.Rounds.{going_first, going_on, round_done, works_last, worked_last, idle_last, leaves_last, stops_last}
+use Rattle.kssd_work.proofs.Rounds.{going_first, going_on, round_done, works_last, worked_last, done_last, idle_last, leaves_last, stops_last}
 use Rattle.kssd_work.proofs.working.work.Goals as goal
 
 pub loop-round-init : goal.loop-round-init
@@ -14,7 +14,7 @@ loop-round-preserved g c =
     let now = g.N.Nand.flash c.do_round.new.nand in
     let done = c.in_ok-more.ensures in
     going_on c.args.mounted.now (g.N.Nand.flash c.args.nand.now) c.args.operations c.loop-round._round c.loop-round.left c.in-Some.more m n old now (g.met.N.Nand.sound c.do_round.new.nand) c.loop-round.invariant
-    (round_done m n old now c.loop-round.left c.in-Some.more _ c.in-Some.is done.stands done.machine c.do_round.ensures.ages c.do_round.ensures.objects done.few done.works done.ended done.counted done.spent)
+    (round_done m n old now c.loop-round.left c.in-Some.more _ c.in-Some.is done.stands done.machine c.do_round.ensures.ages c.do_round.ensures.objects done.few done.works done.ended done.counted done.spent done.paid)
 
 pub do_round-requires-clause-stands : goal.do_round-requires-clause-stands
 do_round-requires-clause-stands g c = c.loop-round.invariant.stands
@@ -68,3 +68,7 @@ returns-in-None-clause-idle g c nothing =
 
 pub unreachable-requires : goal.unreachable-requires
 unreachable-requires g c = omega (arith, c.loop-round-test.false, c.loop-round.invariant.rounds)
+
+pub returns-in-None-clause-done : goal.returns-in-None-clause-done
+returns-in-None-clause-done g c many =
+    done_last c.loop-round.mounted c.args.mounted.now c.do_round.new.mounted (g.N.Nand.flash c.args.nand.now) (g.N.Nand.flash c.loop-round.nand) c.args.operations c.loop-round._round c.loop-round.left _ c.in-None.is c.loop-round.invariant c.in_ok-more.ensures.enough many

@@ -1,6 +1,8 @@
 use Rattle.std.proofs.Common.{arith}
 use Rattle.kv_device.specs.Calls.{SetFault}
 use Rattle.kssd_engine.proofs.AfterCalls.{fallen, kept_up, kept_after, aged_after, aged_up, set_within, set_little}
+use Rattle.kssd_engine.proofs.Bounding.{usual_by}
+use Rattle.kssd_store.specs.Setting.{usual_set_cost}
 use Rattle.kssd_engine.proofs.device.SsdDevice.set.Goals as goal
 
 pub invariant_of-self : goal.invariant_of-self
@@ -31,3 +33,11 @@ pub returns-in-Ok-clause-age : goal.returns-in-Ok-clause-age
 returns-in-Ok-clause-age g c =
     let low = c.args.self.now.kept.ages c.in-Some.mounted c.in-Some.is in
     aged_up c.set.new.mounted c.args.self.now.age c.age_after-self.result c.set_rise-rise.result _ (omega (arith, c.in-Ok.ensures.ages)) (omega (arith, set_within c.args.value.now)) c.age_after-self.ensures
+
+pub returns-in-Ok-clause-usual : goal.returns-in-Ok-clause-usual
+returns-in-Ok-clause-usual g c =
+    usual_by (g.N.Nand.flash c.args.self.now.nand) (g.N.Nand.flash c.set.new.nand) c.args.self.now.mounted c.in-Some.mounted c.args.self.now.age usual_set_cost c.in-Some.is c.args.self.now.kept (omega arith) c.set.ensures.usual
+
+pub returns-in-Err-clause-usual : goal.returns-in-Err-clause-usual
+returns-in-Err-clause-usual g c =
+    usual_by (g.N.Nand.flash c.args.self.now.nand) (g.N.Nand.flash c.set.new.nand) c.args.self.now.mounted c.in-Some.mounted c.args.self.now.age usual_set_cost c.in-Some.is c.args.self.now.kept (omega arith) c.set.ensures.usual

@@ -6,6 +6,7 @@ use Rattle.kssd_index.specs.declared.index.Index.{Index}
 use Rattle.kssd_index.specs.Standing.{job_table}
 use Rattle.kssd_index.specs.Working.{WorksOn}
 use Rattle.kssd_index.proofs.Anchored.{aged_still}
+use Rattle.kssd_index.proofs.Ahead.{job_cost}
 use Rattle.kssd_index.proofs.Beside.{index_kept_still}
 use Rattle.kssd_index.proofs.JobSteps.{carried, beside_job}
 use Rattle.kssd_index.proofs.index.Index.carry_on.Goals as goal
@@ -63,3 +64,8 @@ returns-clause-aged g c =
     let old = g.N.Nand.flash c.args.nand.now in
     let beside = beside_job c.args.kind c.in_ok-job.job (job_table c.args.kind c.args.self.now.older) c.args.self.now old.blocks old.image _ c.requires.stands (c.in_ok-job.ensures.way old.blocks old.image c.requires.stands) c.go_on.ensures.outside in
     omega (arith, beside.aged, ap (λ (i : Index). i.age) c.take_up.ensures.rest)
+
+pub returns-clause-bounded : goal.returns-clause-bounded
+returns-clause-bounded g c =
+    let old = g.N.Nand.flash c.args.nand.now in
+    omega (arith, c.in_ok-left.ensures.bounded, job_cost c.args.kind c.in_ok-job.job c.args.self.now old.blocks old.image c.requires.stands (c.in_ok-job.ensures.way old.blocks old.image c.requires.stands))

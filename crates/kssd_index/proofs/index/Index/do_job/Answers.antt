@@ -1,9 +1,9 @@
-use Rattle.std.proofs.Common.{◌∙◌, ◌<◌, ap, sym, subst, arith}
+use Rattle.std.proofs.Common.{◌∙◌, ap, sym, subst, arith}
 use Rattle.std.proofs.lemmas.Result.{err_from_is_err_and}
 use Rattle.kssd_root.specs.UnderWay.{IsUnderWay}
 use Rattle.kssd_index.specs.declared.index.Index.{Index}
 use Rattle.kssd_index.specs.Standing.{job_table}
-use Rattle.kssd_index.specs.Working.{due_in, jobs_ahead}
+use Rattle.kssd_index.specs.Working.{due_in, IsOneFewer}
 use Rattle.kssd_index.proofs.JobSteps.{on_then_on, on_then_stops, kept_after, back_on}
 use Rattle.kssd_index.proofs.index.Index.do_job.Goals as goal
 
@@ -102,10 +102,16 @@ pub returns-clause-named : goal.returns-clause-named
 returns-clause-named g c =
     let old = g.N.Nand.flash c.args.nand.now in
     let mid = g.N.Nand.flash c.carry_on.new.nand in
-    λ named. subst (λ (i : Index). jobs_ahead c.name_done.new.self < jobs_ahead i) c.carry_on.ensures.rest (c.in_ok-progress.ensures.named named)
+    λ named. subst (λ (i : Index). IsOneFewer c.args.kind i c.name_done.new.self) c.carry_on.ensures.rest (c.in_ok-progress.ensures.named named)
 
 pub returns-clause-end : goal.returns-clause-end
 returns-clause-end g c =
     let old = g.N.Nand.flash c.args.nand.now in
     let mid = g.N.Nand.flash c.carry_on.new.nand in
     λ stays. c.in_ok-progress.ensures.end stays
+
+pub returns-then-not-done-clause-bounded : goal.returns-then-not-done-clause-bounded
+returns-then-not-done-clause-bounded g c = omega (arith, c.in_ok-job.ensures.bounded)
+
+pub returns-clause-bounded : goal.returns-clause-bounded
+returns-clause-bounded g c = omega (arith, c.in_ok-job.ensures.bounded, c.in_ok-progress.ensures.few)

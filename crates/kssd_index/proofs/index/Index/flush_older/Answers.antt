@@ -1,4 +1,5 @@
-use Rattle.std.proofs.Common.{◌≡◌, ◌∙◌, ℕ, ◌+◌, Option, None, Some, ap, sym, subst, arith}
+use Rattle.std.proofs.Common.{true, false, ◌≡◌, ◌∙◌, ℕ, ◌+◌, Option, None, Some, ap, sym, subst, arith}
+use Rattle.std.specs.Prelude.{is_some}
 use Rattle.std.proofs.lemmas.Result.{err_from_is_err_and}
 use Rattle.kv_nand.specs.Flash.{Flash}
 use Rattle.kssd_root.specs.Following.{with_log, IsSplit}
@@ -9,7 +10,7 @@ use Rattle.kssd_index.specs.declared.index.Older.{Older}
 use Rattle.kssd_index.specs.declared.index.Index.{Index}
 use Rattle.kssd_index.specs.Standing.{IsIndex}
 use Rattle.kssd_index.proofs.Anchored.{aged_still}
-use Rattle.kssd_index.proofs.Flushing.{same_index, split_after, flushed, flush_stops}
+use Rattle.kssd_index.proofs.Flushing.{same_index, split_after, flushed, flush_works, flush_stops}
 use Rattle.kssd_index.proofs.index.Index.flush_older.Goals as goal
 
 pub returns-in_default-clause-kept : goal.returns-in_default-clause-kept
@@ -90,3 +91,17 @@ returns-in_err-flush_older-clause-stops g c =
     let is : c.args.self.now.older ≡ Some older = sym c.take.ensures.value ∙ c.in-Some.is in
     let p = err_from_is_err_and c.from_residual-in_err-flush_older.result c.from_residual-in_err-flush_older.ensures.1 in
     rw (p.1, p.2) (flush_stops c.args.self.now.older older old mid new _ is (g.met.N.Nand.sound c.flush_older.new.nand) c.in_ok-make_room.ensures.works c.in_err-flush_older.ensures.stops)
+
+pub returns-clause-works : goal.returns-clause-works
+returns-clause-works g c =
+    let old = g.N.Nand.flash c.args.nand.now in
+    let mid = g.N.Nand.flash c.make_room.new.nand in
+    let new = g.N.Nand.flash c.flush_older.new.nand in
+    let older = c.in-Some.older in
+    let is : c.args.self.now.older ≡ Some older = sym c.take.ensures.value ∙ c.in-Some.is in
+    flush_works c.args.self.now.older older old mid new is (g.met.N.Nand.sound c.flush_older.new.nand) c.in_ok-make_room.ensures.works c.in_ok-flush_older.ensures.works
+
+pub returns-clause-root : goal.returns-clause-root
+returns-clause-root g c none =
+    let is : c.args.self.now.older ≡ Some c.in-Some.older = sym c.take.ensures.value ∙ c.in-Some.is in
+    absurd (let e : true ≡ false = sym (ap (λ (o : Option Older). is_some o) is) ∙ none in cc)

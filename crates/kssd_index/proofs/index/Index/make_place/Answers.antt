@@ -1,4 +1,4 @@
-use Rattle.std.proofs.Common.{◌^◌, arith}
+use Rattle.std.proofs.Common.{◌∙◌, ◌^◌, arith}
 use Rattle.std.proofs.lemmas.Result.{err_from_is_err_and}
 use Rattle.kv_nand.proofs.Chaining.{stops_within}
 use Rattle.kssd_root.proofs.Steps.{works_on, stops_on}
@@ -33,3 +33,6 @@ returns-in_err-freeze-clause-unfrozen_stops g c none =
     let cost = flush_cost c.args.self.now.older old.blocks in
     let p = err_from_is_err_and c.from_residual-in_err-freeze.result c.from_residual-in_err-freeze.ensures.1 in
     rw (p.1, p.2) (stops_on old mid new _ cost 2 2 (2 ^ 64) 0 (g.met.N.Nand.sound c.freeze.new.nand) (omega (arith, none_cost c.args.self.now.older old.blocks none)) c.in_ok-flush_older.ensures.works c.in_err-freeze.ensures.stops)
+
+pub returns-clause-root : goal.returns-clause-root
+returns-clause-root g c none = c.in_ok-freeze.ensures.root ∙ c.in_ok-flush_older.ensures.root none

@@ -87,3 +87,6 @@ returns-clause-on g c =
     let cost_is : write_cost mid.image page ≡ c.in_ok-cost.cost = ap (λ (im : Image). write_cost im page) c.cost.ensures.same ∙ sym c.in_ok-cost.ensures.ok in
     done_on c.args.operations c.in_ok-cost.cost index c.name_job.new.self old mid new (g.met.N.Nand.sound c.args.nand.now) (g.met.N.Nand.sound c.name_job.new.nand) c.requires.stands c.cost.ensures.same c.in_ok-cost.ensures.works (grind arith)
     c.in_ok-name_job.ensures.stands c.name_job.ensures.kept c.in_ok-name_job.ensures.works (c.in_ok-name_job.ensures.exact ∙ ap (ops_more mid) cost_is)
+
+pub returns-clause-few : goal.returns-clause-few
+returns-clause-few g c = let few = c.in_ok-cost.ensures.few.1 in omega (arith, few)

@@ -1,7 +1,8 @@
-use Rattle.std.proofs.Common.{◌∙◌, ◌+◌, ◌<◌, Option, sym, subst, arith}
+use Rattle.std.proofs.Common.{◌∙◌, ◌+◌, Option, sym, subst, arith}
 use Rattle.kssd_index.specs.declared.index.Older.{Older}
-use Rattle.kssd_index.specs.Working.{jobs_ahead}
-use Rattle.kssd_index.proofs.JobSteps.{fewer_flushes}
+use Rattle.kssd_levels.specs.declared.kind.JobKind.TheVariants.{Flush}
+use Rattle.kssd_index.specs.Working.{IsOneFewer}
+use Rattle.kssd_index.proofs.Ahead.{fewer_flushes}
 use Rattle.kssd_index.proofs.NamedJobs.{flushing, flush_named}
 use Rattle.kssd_index.proofs.index.Index.name_flush.Goals as goal
 
@@ -29,5 +30,5 @@ pub returns-clause-fewer : goal.returns-clause-fewer
 returns-clause-fewer g c =
     let index = c.args.self.now in
     let root = c.name_flush.new.self in
-    subst (λ (o : Option Older). jobs_ahead (record index { root = root; age = index.age + 1; older = o }) < jobs_ahead index) (sym c.take.ensures.after)
-    (fewer_flushes index root (index.age + 1) c.requires.frozen c.in_ok-name_flush.ensures.one)
+    subst (λ (o : Option Older). IsOneFewer Flush index (record index { root = root; age = index.age + 1; older = o })) (sym c.take.ensures.after)
+    (fewer_flushes index root (index.age + 1) c.requires.frozen c.in_ok-name_flush.ensures.one c.in_ok-name_flush.ensures.zero)

@@ -1,5 +1,6 @@
 use Rattle.std.proofs.Common.{◌+◌, arith}
-use Rattle.kssd_index.proofs.JobSteps.{due_merge, fewer_merges}
+use Rattle.kssd_index.proofs.Ahead.{fewer_merges}
+use Rattle.kssd_index.proofs.JobSteps.{due_merge}
 use Rattle.kssd_index.proofs.NamedJobs.{merge_way, merge_named}
 use Rattle.kssd_index.proofs.index.Index.name_merge.Goals as goal
 

@@ -1,16 +1,19 @@
-use Rattle.std.proofs.Common.{◌∙◌, refl, sym, arith, inl, inr}
+use Rattle.std.proofs.Common.{◌∙◌, ℕ, ◌-◌, ◌≤◌, subst, refl, sym, arith, inl, inr}
 use Rattle.std.proofs.lemmas.Result.{err_from_is_err_and}
+use Rattle.kv_nand.proofs.Chaining.{works_blocks}
 use Rattle.kssd_index.proofs.Anchored.{aged_still}
-use Rattle.kssd_index.proofs.JobSteps.{on_still, on_then_on, on_then_stops, kept_after, jobs_few, was_named, not_named, never_idle, none_is}
+use Rattle.kssd_root.specs.Costs.{merge_cost}
+use Rattle.kssd_index.proofs.Ahead.{jobs_few, one_fewer, spent_named, spent_part}
+use Rattle.kssd_index.proofs.JobSteps.{on_still, on_then_on, on_then_stops, kept_after, was_named, not_named, never_idle, none_is}
 use Rattle.kssd_index.proofs.index.Index.work.Goals as goal
 
 pub jobs-init : goal.jobs-init
 jobs-init g c =
-    record { on = on_still c.args.operations c.args.self.now (g.N.Nand.flash c.args.nand.now) (g.met.N.Nand.sound c.args.nand.now) c.requires.stands; ages = omega arith; idle = λ none. (refl, refl, refl) }
+    record { on = on_still c.args.operations c.args.self.now (g.N.Nand.flash c.args.nand.now) (g.met.N.Nand.sound c.args.nand.now) c.requires.stands; ages = omega arith; spent = omega arith; idle = λ none. (refl, refl, refl) }
 
 pub jobs-smaller : goal.jobs-smaller
 jobs-smaller g c =
-    c.in_ok-progress.ensures.named (was_named c.in_ok-progress.progress.named c.if-not-progress.false)
+    one_fewer c.in-Some.kind c.jobs.self c.do_job.new.self (sym c.due.ensures ∙ c.in-Some.is) (c.in_ok-progress.ensures.named (was_named c.in_ok-progress.progress.named c.if-not-progress.false))
 
 pub jobs-preserved : goal.jobs-preserved
 jobs-preserved g c =
@@ -19,7 +22,9 @@ jobs-preserved g c =
     let new = g.N.Nand.flash c.do_job.new.nand in
     record {
       on = on_then_on c.args.operations c.jobs.left c.in_ok-progress.progress.left c.jobs.self c.do_job.new.self old now new (g.met.N.Nand.sound c.do_job.new.nand) c.jobs.invariant.on c.in_ok-progress.ensures.on;
-      ages = let fewer = c.in_ok-progress.ensures.named (was_named c.in_ok-progress.progress.named c.if-not-progress.false) in omega (arith, c.jobs.invariant.ages, fewer, c.do_job.ensures.ages);
+      ages = let fewer = one_fewer c.in-Some.kind c.jobs.self c.do_job.new.self (sym c.due.ensures ∙ c.in-Some.is) (c.in_ok-progress.ensures.named (was_named c.in_ok-progress.progress.named c.if-not-progress.false)) in omega (arith, c.jobs.invariant.ages, fewer, c.do_job.ensures.ages);
+      spent = spent_named c.in-Some.kind c.args.self.now c.jobs.self c.do_job.new.self old.blocks c.args.operations c.jobs.left c.in_ok-progress.progress.left (sym c.due.ensures ∙ c.in-Some.is) (c.in_ok-progress.ensures.named (was_named c.in_ok-progress.progress.named c.if-not-progress.false))
+          (subst (λ (b : ℕ). c.jobs.left - c.in_ok-progress.progress.left ≤ merge_cost c.in-Some.kind b) (works_blocks old now _ _ c.jobs.invariant.on.works) c.in_ok-progress.ensures.bounded) c.jobs.invariant.spent;
       idle = λ none. absurd (never_idle c.in-Some.kind c.args.self.now c.jobs.self none (c.jobs.invariant.idle none).0 (sym c.due.ensures ∙ c.in-Some.is));
     }
 
@@ -119,3 +124,13 @@ returns-clause-whole g c =
 pub returns-clause-idle : goal.returns-clause-idle
 returns-clause-idle g c none =
     c.jobs.invariant.idle none
+
+pub returns-then-not-progress-clause-bounded : goal.returns-then-not-progress-clause-bounded
+returns-then-not-progress-clause-bounded g c =
+    let old = g.N.Nand.flash c.args.nand.now in
+    let now = g.N.Nand.flash c.jobs.nand in
+    spent_part c.in-Some.kind c.args.self.now c.jobs.self old.blocks c.args.operations c.jobs.left c.in_ok-progress.progress.left (sym c.due.ensures ∙ c.in-Some.is)
+    (subst (λ (b : ℕ). c.jobs.left - c.in_ok-progress.progress.left ≤ merge_cost c.in-Some.kind b) (works_blocks old now _ _ c.jobs.invariant.on.works) c.in_ok-progress.ensures.bounded) c.jobs.invariant.spent
+
+pub returns-clause-bounded : goal.returns-clause-bounded
+returns-clause-bounded g c = omega (arith, c.jobs.invariant.spent)

@@ -1,5 +1,5 @@
 use Rattle.std.proofs.Common.{◌∙◌, sym, refl}
-use Rattle.kssd_mounted.proofs.Staying.{leaves_image, stopped_left, iterate_done, open_is_allowed, read_fallen, reads_left}
+use Rattle.kssd_mounted.proofs.Staying.{leaves_image, stopped_left, iterate_done, open_is_allowed, read_fallen, reads_left, ops_read, ops_stopped}
 use Rattle.kssd_mounted.proofs.mounted.Mounted.iterate.Goals as goal
 
 pub returns-then-not-is_open-clause-leaves : goal.returns-then-not-is_open-clause-leaves
@@ -21,3 +21,9 @@ pub returns-in-Err-clause-leaves : goal.returns-in-Err-clause-leaves
 returns-in-Err-clause-leaves g c =
     let left = stopped_left (g.N.Nand.flash c.args.nand.now) (g.N.Nand.flash c.iterate.new.nand) c.in-Err.fault c.in-Err.ensures.err in
     leaves_image c.args.self.now (g.N.Nand.flash c.args.nand.now) (g.N.Nand.flash c.iterate.new.nand) left.1 left.0 c.requires.stands
+
+pub returns-in-Ok-clause-idle : goal.returns-in-Ok-clause-idle
+returns-in-Ok-clause-idle g c = ops_read (g.N.Nand.flash c.args.nand.now) (g.N.Nand.flash c.iterate.new.nand) c.in-Ok.ensures.reads
+
+pub returns-in-Err-clause-idle : goal.returns-in-Err-clause-idle
+returns-in-Err-clause-idle g c = ops_stopped (g.N.Nand.flash c.args.nand.now) (g.N.Nand.flash c.iterate.new.nand) c.in-Err.fault c.in-Err.ensures.err

@@ -1,4 +1,8 @@
-use Rattle.std.proofs.Common.{◌∙◌, ◌/◌, ap, sym, arith}
+use Rattle.std.proofs.Common.{◌∙◌, ◌+◌, ◌/◌, ◌^◌, ap, sym, arith}
+use Rattle.std.proofs.lemmas.Result.{err_from_is_err_and}
+use Rattle.kssd_levels.specs.declared.kind.JobKind.TheVariants.{Flush, Zero, One}
+use Rattle.kssd_root.specs.Costs.{run_cost, merge_cost, most_place_cost}
+use Rattle.kssd_root.proofs.Steps.{works_on, stops_on}
 use Rattle.kssd_model.specs.Groups.{Walk}
 use Rattle.kssd_root.proofs.Moving.{root_age, log_same, table_still}
 use Rattle.kssd_root.proofs.root.Root.flush.Goals as goal
@@ -58,3 +62,20 @@ returns-clause-aged g c =
     let next = c.make_room.new.self in
     let age = root_age next mid.blocks mid.image c.in_ok-make_room.ensures.root in
     omega (arith, age, c.make_room.ensures.aged, c.flush_table.ensures.aged)
+
+pub returns-clause-works : goal.returns-clause-works
+returns-clause-works g c =
+    let old = g.N.Nand.flash c.args.nand.now in
+    let mid = g.N.Nand.flash c.make_room.new.nand in
+    let new = g.N.Nand.flash c.flush_table.new.nand in
+    works_on old mid new (merge_cost One old.blocks + merge_cost Zero old.blocks) (run_cost Flush mid.blocks + 3) (most_place_cost old.blocks) (2 ^ 64) (2 ^ 64) (g.met.N.Nand.sound c.flush_table.new.nand) (omega arith)
+    c.in_ok-make_room.ensures.works c.in_ok-ring-2.ensures.works
+
+pub returns-in_err-ring-2-clause-stops : goal.returns-in_err-ring-2-clause-stops
+returns-in_err-ring-2-clause-stops g c =
+    let old = g.N.Nand.flash c.args.nand.now in
+    let mid = g.N.Nand.flash c.make_room.new.nand in
+    let new = g.N.Nand.flash c.flush_table.new.nand in
+    let p = err_from_is_err_and c.from_residual-in_err-ring-2.result c.from_residual-in_err-ring-2.ensures.1 in
+    rw (p.1, p.2) (stops_on old mid new _ (merge_cost One old.blocks + merge_cost Zero old.blocks) (run_cost Flush mid.blocks + 3) (most_place_cost old.blocks) (2 ^ 64) (2 ^ 64) (g.met.N.Nand.sound c.flush_table.new.nand) (omega arith)
+    c.in_ok-make_room.ensures.works c.in_err-ring-2.ensures.stops)

@@ -5,7 +5,7 @@ use Rattle.kssd_root.specs.Following.{with_log}
 use Rattle.kssd_root.proofs.Anchored.{kept_still}
 use Rattle.kssd_root.proofs.Moving.{nameable, root_age}
 use Rattle.kssd_root.proofs.Splitting.{later_begins}
-use Rattle.kssd_root.proofs.UnderWay.{way_done, flush_run}
+use Rattle.kssd_root.proofs.UnderWay.{way_done, flush_run, one_more_run}
 use Rattle.kssd_root.proofs.root.Root.name_flush.Goals as goal
 
 pub install-requires : goal.install-requires
@@ -41,3 +41,6 @@ name_levels-requires-clause-log g c =
 
 pub returns-clause-one : goal.returns-clause-one
 returns-clause-one g c = ap (λ (l : Levels). l.one) c.in_ok-name_levels.ensures.levels ∙ c.in_ok-install.ensures.installs.1
+
+pub returns-clause-zero : goal.returns-clause-zero
+returns-clause-zero g c = one_more_run c.into_run-run.result c.args.self.now.levels c.install.new.self c.name_levels.new.self.levels c.in_ok-name_levels.ensures.levels c.in_ok-install.ensures.installs
