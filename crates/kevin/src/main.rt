@@ -14,8 +14,8 @@ use std::io;
 use std::process::ExitCode;
 use std::rt::{Env, Files};
 
-/// Runs a script on a new flash and puts its image on the shelf, or makes a load, and answers the
-/// status.
+/// Runs a script, on a new flash where it begins with a format and else on the image of the shelf, and puts
+/// the image then; or makes a load. It answers the status.
 pub fn kevin<H: Shelf, S: Source, O: Sink>(
     alloc: Global,
     words: &Vec<Text>,

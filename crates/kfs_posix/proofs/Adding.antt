@@ -10,7 +10,6 @@ use Rattle.kfs_objects.proofs.KeyLaws.{length_be64}
 use Rattle.kfs_path.specs.declared.call.Call.{Call}
 use Rattle.kfs_path.specs.declared.call.Cause.{Cause}
 use Rattle.kfs_path.specs.declared.call.Reply.{Reply}
-use Rattle.kfs_path.specs.declared.call.Reply.TheVariants as replies
 use Rattle.kfs_model.specs.declared.Node.{Node}
 use Rattle.kfs_model.specs.declared.Line.TheVariants as lines
 use Rattle.kfs_model.specs.declared.Answer.TheVariants as answers
@@ -30,10 +29,11 @@ use Rattle.kfs_core.proofs.Ways.{IsSpot}
 use Rattle.kfs_posix.specs.Opens.{Opens, desk_of}
 use Rattle.kfs_posix.specs.Holding.{Holds}
 use Rattle.kfs_posix.specs.Book.{Book, limits_of, cause_of}
-use Rattle.kfs_posix.specs.Showing.{ShowsLive, IsSaved, GoesOn}
+use Rattle.kfs_posix.specs.Showing.{ShowsLive, IsWhole, GoesOn}
 use Rattle.kfs_posix.proofs.Changing.{IsPut, change_shown, sees, to_save}
-use Rattle.kfs_posix.proofs.Going.{Fell, spare, as_before, as_after, change_goes_at, fall_goes}
+use Rattle.kfs_posix.proofs.Going.{Fell, spare, as_before, as_after, change_goes_at, fall_goes, Refuses}
 use Rattle.kfs_posix.proofs.Calls.{stands_of, room_for}
+use Rattle.kfs_core.specs.declared.fault.CoreFault.TheVariants.{Device}
 
 keeps : (r : Run) (b : Bool) → SameBounds r.machine (cond b (committed r) r).machine × ((cond b (committed r) r).machine.cuts ≡ r.machine.cuts) × ((cond b (committed r) r).machine.faults ≡ r.machine.faults)
 keeps r true = (record { most_cuts = refl; most_faults = refl; room_keys = refl; room_pages = refl }, refl, refl)
@@ -118,7 +118,7 @@ module _ (old : Book) (kind : ℕ) (node : Node) (fresh : IsFresh node) (value_i
 
   pub add_falls : (new : Book) (call : Call) (reply : Reply) (files : Opens) (fault : DeviceFault) → old.down ≡ None → new.down ≡ Some (cause_of fault) → limits_of new ≡ limits_of old → ((world : World) (cause : Cause) → can_fail world call cause ≡ true)
       → ((live : Live) → ShowsLive old live → Adds old node call reply files (spare old) w live)
-      → AddFault old.run kind (parent_of w) w.name fault new.run.machine → GoesOn old (lines.Call call) (answers.Reply (replies.Down (cause_of fault))) new
+      → AddFault old.run kind (parent_of w) w.name fault new.run.machine → Refuses old call (Device fault) new
   add_falls new call reply files fault up down same can adds h = fall_goes old new call fault up down same (λ live sh. fell live sh (adds live sh) h)
     where
       before : (live : Live) → ShowsLive old live → Fallen old.run.machine fault old.run.machine.stable new.run.machine → Fell old new live call fault
@@ -147,7 +147,7 @@ module _ (old : Book) (kind : ℕ) (node : Node) (fresh : IsFresh node) (value_i
                   fallen = record { cause = f.cause; stable = f.stable; bounds = record { most_cuts = f.bounds.most_cuts; most_faults = f.bounds.most_faults; room_keys = f.bounds.room_keys; room_pages = f.bounds.room_pages } };
                   stood = as_after 4 (ap (weight live.world call) adds.step_is ∙ adds.weighs)
                       (ap (λ (a : After). is_boundary live.since call a.reply (Some 4)) adds.step_is ∙ (λ i. is_full (sym sh.changes i + 1) (sym sh.weight i + 4)) ∙ x.0)
-                      (subst (λ t. IsSaved (limits_of old) (seen (with_super r (old.run.next + 1))) t (live.past.count + 1)) (ap (λ (a : After). a.world.tree) (sym adds.step_is)) saved);
+                      (subst (λ t. IsWhole (limits_of old) (seen (with_super r (old.run.next + 1))) t (live.past.count + 1)) (ap (λ (a : After). a.world.tree) (sym adds.step_is)) saved);
                   can = λ cause e. can live.world cause;
                 }
           ]

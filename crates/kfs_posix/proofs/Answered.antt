@@ -26,20 +26,26 @@ use Rattle.kfs_core.specs.Making.{MkdirFails, made, parent_of}
 use Rattle.kfs_posix.specs.declared.open_files.OpenFile.{OpenFile}
 use Rattle.kfs_posix.specs.Opens.{Opens, open_at}
 use Rattle.kfs_posix.specs.Book.{Book, SessionState, state_of, book_of, running_in, limits_of, cause_of}
-use Rattle.kfs_posix.specs.Answering.{Counts, KeepsCause, refusal, down_after}
+use Rattle.kfs_posix.specs.Answering.{Counts, KeepsCause, refusal, down_after, IsAnswerable}
 use Rattle.kfs_posix.specs.Looking.{found_by, names_by, told_by}
 use Rattle.std.proofs.lemmas.Bool.Decides.{nat_tests}
-use Rattle.kfs_posix.specs.Showing.{ShowsLive, GoesOn}
+use Rattle.kfs_posix.specs.Showing.{ShowsLive, GoesOn, IsShowing}
 use Rattle.std.specs.Prelude.{IsSome}
-use Rattle.kfs_posix.proofs.Going.{spare, idle_goes, down_goes}
+use Rattle.kfs_posix.proofs.Going.{spare, idle_goes, down_goes, Refuses, errs}
 use Rattle.kfs_posix.proofs.Held.{described, opened_same}
 use Rattle.kfs_posix.proofs.Calls.{any_cause, commit_goes, commit_falls_in, stat_goes, list_goes, sync_goes, sync_falls}
 use Rattle.kfs_posix.proofs.Looking.{stat_same, list_same, told_ok, names_ok}
 use Rattle.kfs_posix.proofs.Fault.{stays_book, read_refused}
 use Rattle.kfs_posix.proofs.Mkdir.{place_fits, mkdir_goes, mkdir_refused, mkdir_unread, mkdir_falls}
+use Rattle.kfs_posix.proofs.Shown.{answers_it}
 
 abbrev Goes : SessionState → Call → Reply → KfsState → Opens → Option Cause → Type 0
 Goes old call reply k1 o d1 = GoesOn old.book (lines.Call call) (answers.Reply reply) (book_of k1 o d1)
+
+-- the call failed; the device refused nothing
+pub record Denied (old : SessionState) (call : Call) (fault : CoreFault) (reply : Reply) (k1 : KfsState) (o : Opens) (d1 : Option Cause) : Type 0 where
+  pub goes : Goes old call reply k1 o d1
+  pub answerable : IsShowing old.book → IsAnswerable fault
 
 -- ---- stat and list
 
@@ -61,17 +67,20 @@ module _ (old : SessionState) (k0 k1 : KfsState) (o : Opens) (d : Option Cause) 
 
   -- refused, or down
   fault_goes : (call : Call) (reply : Reply) (fault : CoreFault) (d1 : Option Cause) → reply ≡ refusal fault → d1 ≡ down_after d fault
-      → GoesOn b (lines.Call call) (answers.Reply (refusal fault)) (record b { run = run_in k1; down = down_after d fault }) → Goes old call reply k1 o d1
-  fault_goes call reply fault d1 reply_is down goes =
-      let e : book_of k1 o d1 ≡ record b { run = run_in k1; down = down_after d fault } = ap (λ (k : KfsState). book_of k o d1) rest ∙ (λ i. record b { run = run_in k1; down = down i }) in
-      subst (λ (s : SessionState). GoesOn s.book (lines.Call call) (answers.Reply reply) (book_of k1 o d1)) is
-      (subst (λ r. GoesOn b (lines.Call call) (answers.Reply r) (book_of k1 o d1)) (sym reply_is) (subst (λ c. GoesOn b (lines.Call call) (answers.Reply (refusal fault)) c) (sym e) goes))
+      → Refuses b call fault (record b { run = run_in k1; down = down_after d fault }) → Denied old call fault reply k1 o d1
+  fault_goes call reply fault d1 reply_is down refuses = record { goes = goes; answerable = answers_it old k0 o d is up call fault (record b { run = run_in k1; down = down_after d fault }) refuses }
+    where
+      goes : Goes old call reply k1 o d1
+      goes =
+          let e : book_of k1 o d1 ≡ record b { run = run_in k1; down = down_after d fault } = ap (λ (k : KfsState). book_of k o d1) rest ∙ (λ i. record b { run = run_in k1; down = down i }) in
+          subst (λ (s : SessionState). GoesOn s.book (lines.Call call) (answers.Reply reply) (book_of k1 o d1)) is
+          (subst (λ r. GoesOn b (lines.Call call) (answers.Reply r) (book_of k1 o d1)) (sym reply_is) (subst (λ c. GoesOn b (lines.Call call) (answers.Reply (refusal fault)) c) (sym e) refuses.goes))
 
   pub stat_answered : (path : List ℕ) (n kind size : ℕ) (reply : Reply) → found_by (seen (run_in k0)) path ≡ Ok (n, kind, size) → reply ≡ told_by (n, kind, size) → run_in k1 ≡ run_in k0 → Goes old (calls.Stat path) reply k1 o d
   stat_answered path n kind size reply gives told leaves = same_goes (calls.Stat path) reply leaves
       (subst (λ r. GoesOn b (lines.Call (calls.Stat path)) (answers.Reply r) b) (sym told) (stat_goes b path (Ok (told_by (n, kind, size))) up (stat_same (seen (run_in k0)) path ∙ ap by_told gives)))
 
-  pub stat_refused : (path : List ℕ) (reply : Reply) (fault : CoreFault) (d1 : Option Cause) → Fails fault (found_by (seen (run_in k0)) path) → LeavesAtFault (run_in k0) fault (run_in k1) → reply ≡ refusal fault → d1 ≡ down_after d fault → Goes old (calls.Stat path) reply k1 o d1
+  pub stat_refused : (path : List ℕ) (reply : Reply) (fault : CoreFault) (d1 : Option Cause) → Fails fault (found_by (seen (run_in k0)) path) → LeavesAtFault (run_in k0) fault (run_in k1) → reply ≡ refusal fault → d1 ≡ down_after d fault → Denied old (calls.Stat path) fault reply k1 o d1
   stat_refused path reply fault d1 fails leaves reply_is down = fault_goes (calls.Stat path) reply fault d1 reply_is down
       (read_refused b (calls.Stat path) (stat_in (seen (run_in k0)) path) fault (run_in k1) up (by fault fails) leaves (λ w. refl) (λ w. refl) (λ e is. stat_goes b path (Err e) up is))
     where
@@ -83,7 +92,7 @@ module _ (old : SessionState) (k0 k1 : KfsState) (o : Opens) (d : Option Cause) 
   list_answered path names small gives leaves = same_goes (calls.List path) (replies.Names names) leaves
       (list_goes b path (Ok (replies.Names names)) up (omega arith) (list_same (seen (run_in k0)) path ∙ ap by_names gives))
 
-  pub list_refused : (path : List ℕ) (reply : Reply) (fault : CoreFault) (d1 : Option Cause) → k0.keys ≤ 68544 → Fails fault (names_by (seen (run_in k0)) path) → LeavesAtFault (run_in k0) fault (run_in k1) → reply ≡ refusal fault → d1 ≡ down_after d fault → Goes old (calls.List path) reply k1 o d1
+  pub list_refused : (path : List ℕ) (reply : Reply) (fault : CoreFault) (d1 : Option Cause) → k0.keys ≤ 68544 → Fails fault (names_by (seen (run_in k0)) path) → LeavesAtFault (run_in k0) fault (run_in k1) → reply ≡ refusal fault → d1 ≡ down_after d fault → Denied old (calls.List path) fault reply k1 o d1
   list_refused path reply fault d1 small fails leaves reply_is down = fault_goes (calls.List path) reply fault d1 reply_is down
       (read_refused b (calls.List path) (list_in (seen (run_in k0)) path) fault (run_in k1) up (by fault fails) leaves (λ w. refl) (λ w. refl) (λ e is. list_goes b path (Err e) up (omega arith) is))
     where
@@ -99,17 +108,17 @@ module _ (old : SessionState) (k0 k1 : KfsState) (o : Opens) (d : Option Cause) 
       subst (λ (s : SessionState). GoesOn s.book (lines.Call call) (answers.Reply replies.Done) (book_of k1 o d)) is (subst (λ c. GoesOn b (lines.Call call) (answers.Reply replies.Done) c) (sym e) goes)
 
   pub commit_refused : (call : Call) (reply : Reply) (fault : CoreFault) (d1 : Option Cause) → CommitFails (run_in k0) (run_in k1) fault → reply ≡ refusal fault → d1 ≡ down_after d fault
-      → ((f : DeviceFault) → CommitFault (run_in k0) f (run_in k1).machine → GoesOn b (lines.Call call) (answers.Reply (replies.Down (cause_of f))) (record b { run = run_in k1; down = Some (cause_of f) })) → Goes old call reply k1 o d1
+      → ((f : DeviceFault) → CommitFault (run_in k0) f (run_in k1).machine → Refuses b call (Device f) (record b { run = run_in k1; down = Some (cause_of f) })) → Denied old call fault reply k1 o d1
   commit_refused call reply fault d1 fails reply_is down falls = fault_goes call reply fault d1 reply_is down (by fault fails)
     where
-      by : (fault : CoreFault) → CommitFails (run_in k0) (run_in k1) fault → GoesOn b (lines.Call call) (answers.Reply (refusal fault)) (record b { run = run_in k1; down = down_after d fault })
+      by : (fault : CoreFault) → CommitFails (run_in k0) (run_in k1) fault → Refuses b call fault (record b { run = run_in k1; down = down_after d fault })
       by (No e) h = absurd h
       by (Device f) h = falls f h
 
   pub sync_answered : run_in k1 ≡ committed (run_in k0) → Goes old calls.Sync replies.Done k1 o d
   sync_answered done = commit_answered calls.Sync done (sync_goes b up)
 
-  pub sync_refused : (reply : Reply) (fault : CoreFault) (d1 : Option Cause) → CommitFails (run_in k0) (run_in k1) fault → reply ≡ refusal fault → d1 ≡ down_after d fault → Goes old calls.Sync reply k1 o d1
+  pub sync_refused : (reply : Reply) (fault : CoreFault) (d1 : Option Cause) → CommitFails (run_in k0) (run_in k1) fault → reply ≡ refusal fault → d1 ≡ down_after d fault → Denied old calls.Sync fault reply k1 o d1
   sync_refused reply fault d1 fails reply_is down = commit_refused calls.Sync reply fault d1 fails reply_is down (λ f h. sync_falls b (record b { run = run_in k1; down = Some (cause_of f) }) f up refl refl h)
 
   -- ---- fsync
@@ -122,7 +131,7 @@ module _ (old : SessionState) (k0 k1 : KfsState) (o : Opens) (d : Option Cause) 
   pub fsync_answered : (fd : ℕ) (it : ℕ × OpenFile) → Some it ≡ open_at o fd → run_in k1 ≡ committed (run_in k0) → Goes old (calls.Fsync fd) replies.Done k1 o d
   fsync_answered fd it e done = commit_answered (calls.Fsync fd) done (commit_goes b (calls.Fsync fd) up (λ w. refl) refl (fsync_did fd it e))
 
-  pub fsync_refused : (fd : ℕ) (it : ℕ × OpenFile) → Some it ≡ open_at o fd → (reply : Reply) (fault : CoreFault) (d1 : Option Cause) → CommitFails (run_in k0) (run_in k1) fault → reply ≡ refusal fault → d1 ≡ down_after d fault → Goes old (calls.Fsync fd) reply k1 o d1
+  pub fsync_refused : (fd : ℕ) (it : ℕ × OpenFile) → Some it ≡ open_at o fd → (reply : Reply) (fault : CoreFault) (d1 : Option Cause) → CommitFails (run_in k0) (run_in k1) fault → reply ≡ refusal fault → d1 ≡ down_after d fault → Denied old (calls.Fsync fd) fault reply k1 o d1
   fsync_refused fd it e reply fault d1 fails reply_is down = commit_refused (calls.Fsync fd) reply fault d1 fails reply_is down
       (λ f h. commit_falls_in b (record b { run = run_in k1; down = Some (cause_of f) }) (calls.Fsync fd) f up refl refl (λ w. refl) refl (λ w cause. any_cause w (calls.Fsync fd) refl refl refl cause) (fsync_did fd it e) h)
 
@@ -144,14 +153,16 @@ module _ (old : SessionState) (k0 k1 : KfsState) (o : Opens) (d : Option Cause) 
       (subst (λ c. GoesOn book (lines.Call (calls.Mkdir path)) (answers.Reply replies.Done) c) (λ i. record { run = sym done i; keys = sym keys i; pages = sym pages i; charge = sym charge i; chunks = sym chunks i; files = o; down = d })
       (mkdir_goes book path w up low few (place_fits (seen (run_in k0)) k0.keys k0.charge path w judged) judged))
 
-  pub mkdir_not_made : (reply : Reply) (fault : CoreFault) (d1 : Option Cause) → MkdirFails (run_in k0) (place_in (seen (run_in k0)) k0.keys k0.charge path) fault (run_in k1) → k1.charge ≡ k0.charge → reply ≡ refusal fault → d1 ≡ down_after d fault → Goes old (calls.Mkdir path) reply k1 o d1
-  mkdir_not_made reply fault d1 fails charge reply_is down =
-      subst (λ (s : SessionState). GoesOn s.book (lines.Call (calls.Mkdir path)) (answers.Reply reply) (book_of k1 o d1)) is
-      (subst (λ r. GoesOn book (lines.Call (calls.Mkdir path)) (answers.Reply r) (book_of k1 o d1)) (sym reply_is)
-      (subst (λ c. GoesOn book (lines.Call (calls.Mkdir path)) (answers.Reply (refusal fault)) c) (λ i. record { run = run_in k1; keys = sym keys i; pages = sym pages i; charge = sym charge i; chunks = sym chunks i; files = o; down = sym down i }) (by fault fails)))
+  pub mkdir_not_made : (reply : Reply) (fault : CoreFault) (d1 : Option Cause) → MkdirFails (run_in k0) (place_in (seen (run_in k0)) k0.keys k0.charge path) fault (run_in k1) → k1.charge ≡ k0.charge → reply ≡ refusal fault → d1 ≡ down_after d fault → Denied old (calls.Mkdir path) fault reply k1 o d1
+  mkdir_not_made reply fault d1 fails charge reply_is down = record {
+    goes = subst (λ (s : SessionState). GoesOn s.book (lines.Call (calls.Mkdir path)) (answers.Reply reply) (book_of k1 o d1)) is
+        (subst (λ r. GoesOn book (lines.Call (calls.Mkdir path)) (answers.Reply r) (book_of k1 o d1)) (sym reply_is)
+        (subst (λ c. GoesOn book (lines.Call (calls.Mkdir path)) (answers.Reply (refusal fault)) c) (λ i. record { run = run_in k1; keys = sym keys i; pages = sym pages i; charge = sym charge i; chunks = sym chunks i; files = o; down = sym down i }) (by fault fails).goes));
+    answerable = answers_it old k0 o d is up (calls.Mkdir path) fault (record book { run = run_in k1; down = down_after d fault }) (by fault fails);
+  }
     where
-      by : (fault : CoreFault) → MkdirFails (run_in k0) (place_in (seen (run_in k0)) k0.keys k0.charge path) fault (run_in k1) → GoesOn book (lines.Call (calls.Mkdir path)) (answers.Reply (refusal fault)) (record book { run = run_in k1; down = down_after d fault })
-      by (No e) h = subst (λ r. GoesOn book (lines.Call (calls.Mkdir path)) (answers.Reply (replies.Err e)) (record book { run = r })) (sym h.1) (mkdir_refused book path e up h.0)
+      by : (fault : CoreFault) → MkdirFails (run_in k0) (place_in (seen (run_in k0)) k0.keys k0.charge path) fault (run_in k1) → Refuses book (calls.Mkdir path) fault (record book { run = run_in k1; down = down_after d fault })
+      by (No e) h = errs book (record book { run = run_in k1 }) (calls.Mkdir path) e (subst (λ r. GoesOn book (lines.Call (calls.Mkdir path)) (answers.Reply (replies.Err e)) (record book { run = r })) (sym h.1) (mkdir_refused book path e up h.0))
       by (Device f) (inl h) = mkdir_unread book path (record book { run = run_in k1; down = Some (cause_of f) }) f up refl refl h
       by (Device f) (inr h) = mkdir_falls book path (record book { run = run_in k1; down = Some (cause_of f) }) h.0 f up refl refl low few (place_fits (seen (run_in k0)) k0.keys k0.charge path h.0 h.1) h.1 h.2
 

@@ -1,5 +1,4 @@
 -- Each call of a session as an event of a life.
-use Rattle.kfs_core.proofs.Cleared.{kept_all}
 use Rattle.std.proofs.Common.{◌≡◌, ℕ, ◌<◌, ◌≤◌, ◌^◌, ◌&&◌, inl, inr, true, false, Bool, refl, sym, ◌∙◌, ap, subst, arith, List, Option, Some, None, Result, Ok, Err, nat_le, is_some}
 use Rattle.std.specs.FinMap as objects
 use Rattle.std.proofs.lemmas.Bool.Decides.{nat_tests}
@@ -33,9 +32,10 @@ use Rattle.kfs_core.proofs.Judges.{stat_same}
 use Rattle.kfs_core.proofs.Children.{list_same}
 use Rattle.kfs_core.proofs.Small.{commit_small}
 use Rattle.kfs_posix.specs.Book.{Book, limits_of, cause_of}
-use Rattle.kfs_posix.specs.Showing.{ShowsLive, IsSaved, GoesOn}
+use Rattle.kfs_posix.specs.Showing.{ShowsLive, IsWhole, GoesOn}
 use Rattle.kfs_posix.proofs.Rooms.{named_fits}
-use Rattle.kfs_posix.proofs.Going.{spare, spare_free, as_before, as_synced, idle_goes, fall_goes, up_goes, answered}
+use Rattle.kfs_posix.proofs.Going.{spare, spare_free, as_before, as_synced, idle_goes, fall_goes, up_goes, answered, Refuses}
+use Rattle.kfs_core.specs.declared.fault.CoreFault.TheVariants.{Device}
 
 pub stands_of : (b : Book) (live : Live) → ShowsLive b live → Stands (seen b.run) live.world.tree
 stands_of b live sh = record { tree = sh.tree; shows = sh.sees.tree; low = (let h = sh.low in omega arith) }
@@ -67,7 +67,7 @@ can_read w call r Memory new ready h eio nomem cause e = ap (can_fail w call) e 
 
 -- a call that only reads meets a fault
 pub read_falls : (old new : Book) (call : Call) (fault : DeviceFault) → ((w : World) → can_fail w call Eio ≡ true) → ((w : World) → can_fail w call NoMem ≡ true) → old.down ≡ None → new.down ≡ Some (cause_of fault) → limits_of new ≡ limits_of old → GetFault old.run fault new.run.machine
-    → GoesOn old (lines.Call call) (answers.Reply (replies.Down (cause_of fault))) new
+    → Refuses old call (Device fault) new
 read_falls old new call fault eio nomem up down same h = fall_goes old new call fault up down same (λ live sh. record {
   stands = old.run.machine.stable;
   fallen = get_falls old.run fault new.run.machine sh.light.ready h;
@@ -76,27 +76,27 @@ read_falls old new call fault eio nomem up down same h = fall_goes old new call 
 })
 
 -- what the transaction sees may be saved
-pub live_saved : (b : Book) (live : Live) → ShowsLive b live → IsSaved (limits_of b) (seen b.run) live.world.tree live.past.count
-live_saved b live sh = record { tree = sh.tree; kept = live.world.tree; is_kept = kept_all live.world.tree sh.tree; kept_tree = sh.tree; shows = sh.sees; next = sh.low; count = sh.few_changes; room = named_fits (limits_of b) live.world.tree sh.room }
+pub live_saved : (b : Book) (live : Live) → ShowsLive b live → IsWhole (limits_of b) (seen b.run) live.world.tree live.past.count
+live_saved b live sh = record { tree = sh.tree; shows = sh.sees; next = sh.low; count = sh.few_changes; room = named_fits (limits_of b) live.world.tree sh.room }
 
 -- ---- sync
 
 -- a call that commits, whichever it is
 pub commit_goes : (old : Book) (call : Call) → old.down ≡ None → ((w : World) → weight w call (record { world = w; reply = replies.Done }) ≡ None) → commits call replies.Done ≡ true
     → ((live : Live) → ShowsLive old live → step (limits_of old) (spare old) live.world call ≡ record { world = live.world; reply = replies.Done }) → GoesOn old (lines.Call call) (answers.Reply replies.Done) (record old { run = committed old.run })
-commit_goes old call up none does did = up_goes old (record old { run = committed old.run }) call replies.Done up (λ s live showing sh.
+commit_goes old call up none does did = up_goes old (record old { run = committed old.run }) call replies.Done up (λ s live fits sh.
     let is = did live sh in
     let same : live_after live call (step (limits_of old) (spare old) live.world call) ≡ live_with live live.world None true =
     ap (live_after live call) is
     ∙ ap (λ (o : Option ℕ). live_with live live.world o (is_boundary live.since call replies.Done o)) (none live.world)
     ∙ ap (λ (f : Bool). live_with live live.world None f) does in
-    answered old (record old { run = committed old.run }) s live call replies.Done (spare old) (spare_free old) showing sh (sym (ap (λ (a : After). a.reply) is)) (subst (ShowsLive (record old { run = committed old.run })) (sym same) (record {
+    answered old (record old { run = committed old.run }) s live call replies.Done (spare old) (spare_free old) sh (sym (ap (λ (a : After). a.reply) is)) (subst (ShowsLive (record old { run = committed old.run })) (sym same) (record {
       up = sh.up;
       tree = sh.tree;
       low = sh.low;
       few_changes = sh.few_changes;
       sees = subst (λ m. Shows m live.world.tree live.past.count) (sym (seen_committed old.run sh.light.ready)) sh.sees;
-      saved = subst (λ t. IsSaved (limits_of old) (seen old.run) t live.past.count) (sym sh.newest) (live_saved old live sh);
+      saved = subst (λ t. IsWhole (limits_of old) (seen old.run) t live.past.count) (sym sh.newest) (live_saved old live sh);
       newest = sh.newest;
       behind = omega arith;
       desk = sh.desk;
@@ -139,7 +139,7 @@ any_cause w call cut eio nomem NoMem = nomem
 
 -- a call of any kind that meets a fault before it changed anything
 pub unread_falls : (old new : Book) (call : Call) (fault : DeviceFault) → ((w : World) (cause : Cause) → can_fail w call cause ≡ true) → old.down ≡ None → new.down ≡ Some (cause_of fault) → limits_of new ≡ limits_of old → GetFault old.run fault new.run.machine
-    → GoesOn old (lines.Call call) (answers.Reply (replies.Down (cause_of fault))) new
+    → Refuses old call (Device fault) new
 unread_falls old new call fault can up down same h = fall_goes old new call fault up down same (λ live sh. record {
   stands = old.run.machine.stable;
   fallen = get_falls old.run fault new.run.machine sh.light.ready h;
@@ -150,7 +150,7 @@ unread_falls old new call fault can up down same h = fall_goes old new call faul
 pub commit_falls_in : (old new : Book) (call : Call) (fault : DeviceFault) → old.down ≡ None → new.down ≡ Some (cause_of fault) → limits_of new ≡ limits_of old
     → ((w : World) → weight w call (record { world = w; reply = replies.Done }) ≡ None) → commits call replies.Done ≡ true → ((w : World) (cause : Cause) → can_fail w call cause ≡ true)
     → ((live : Live) → ShowsLive old live → step (limits_of old) (spare old) live.world call ≡ record { world = live.world; reply = replies.Done })
-    → CommitFault old.run fault new.run.machine → GoesOn old (lines.Call call) (answers.Reply (replies.Down (cause_of fault))) new
+    → CommitFault old.run fault new.run.machine → Refuses old call (Device fault) new
 commit_falls_in old new call fault up down same none does can did h = fall_goes old new call fault up down same (λ live sh.
     let is = did live sh in
     elim (commit_falls old.run fault new.run.machine sh.light.ready (room_for (seen old.run) live.world.tree live.past.count (limits_of old) old.run.machine sh.tree sh.sees (let h = sh.low in omega arith) sh.room sh.keys sh.pages) h) [
@@ -158,12 +158,12 @@ commit_falls_in old new call fault up down same none does can did h = fall_goes 
       | inr a ↦ record {
         stands = seen old.run;
         fallen = a;
-        stood = as_synced (ap (weight live.world call) is ∙ none live.world) (ap (λ (a : After). is_boundary live.since call a.reply None) is ∙ does) (subst (λ t. IsSaved (limits_of old) (seen old.run) t live.past.count) (sym sh.newest) (live_saved old live sh));
+        stood = as_synced (ap (weight live.world call) is ∙ none live.world) (ap (λ (a : After). is_boundary live.since call a.reply None) is ∙ does) (subst (λ t. IsWhole (limits_of old) (seen old.run) t live.past.count) (sym sh.newest) (live_saved old live sh));
         can = λ cause e. can live.world cause;
       }
     ])
 
-pub sync_falls : (old new : Book) (fault : DeviceFault) → old.down ≡ None → new.down ≡ Some (cause_of fault) → limits_of new ≡ limits_of old → CommitFault old.run fault new.run.machine → GoesOn old (lines.Call calls.Sync) (answers.Reply (replies.Down (cause_of fault))) new
+pub sync_falls : (old new : Book) (fault : DeviceFault) → old.down ≡ None → new.down ≡ Some (cause_of fault) → limits_of new ≡ limits_of old → CommitFault old.run fault new.run.machine → Refuses old calls.Sync (Device fault) new
 sync_falls old new fault up down same h = commit_falls_in old new calls.Sync fault up down same (λ w. refl) refl (λ w cause. any_cause w calls.Sync refl refl refl cause) (λ live sh. refl) h
 
 pub none_of : (o : Option Cause) → false ≡ is_some o → o ≡ None

@@ -1,5 +1,4 @@
 -- One change, whichever call makes it: what the session shows after it, and where it fails.
-use Rattle.kfs_core.proofs.Cleared.{kept_all}
 use Rattle.std.proofs.Common.{◌≡◌, ℕ, ◌<◌, ◌≤◌, ◌+◌, ◌^◌, ◌||◌, true, false, cond, Bool, refl, sym, ◌∙◌, ap, subst, arith, Some, nat_le}
 use Rattle.std.specs.FinMap as objects
 use Rattle.std.proofs.lemmas.Bool.Decides.{nat_tests}
@@ -15,7 +14,7 @@ use Rattle.kfs_tx.proofs.Seeing.{ready_put, seen_put, keys_put, ready_committed,
 use Rattle.kfs_posix.specs.Book.{Book, limits_of}
 use Rattle.kfs_posix.specs.Opens.{Opens, desk_of}
 use Rattle.kfs_posix.specs.Holding.{Holds}
-use Rattle.kfs_posix.specs.Showing.{ShowsLive, IsSaved}
+use Rattle.kfs_posix.specs.Showing.{ShowsLive, IsWhole}
 use Rattle.kfs_posix.proofs.Rooms.{named_fits}
 use Rattle.kfs_posix.proofs.Past.{older, newest}
 
@@ -56,8 +55,8 @@ module _ (b : Book) (live : Live) (sh : ShowsLive b live) (r : Run) (t : Tree) (
   sees = subst (λ m. Shows m t (live.past.count + 1)) (sym (seen_put r super_key (super_value (r.changes + 1) next) put.ready ∙ (λ i. objects.insert (seen r) super_key (super_value (count_is i) (put.next_is i)))))
       (with_super (seen r) t (live.past.count + 1) put.shows)
 
-  pub to_save : IsSaved (limits_of b) (seen done) t (live.past.count + 1)
-  to_save = record { tree = put.tree; kept = t; is_kept = kept_all t put.tree; kept_tree = put.tree; shows = sees; next = put.low; count = (let e = count_is in let h = put.few_changes in omega arith); room = named_fits (limits_of b) t put.room }
+  pub to_save : IsWhole (limits_of b) (seen done) t (live.past.count + 1)
+  to_save = record { tree = put.tree; shows = sees; next = put.low; count = (let e = count_is in let h = put.few_changes in omega arith); room = named_fits (limits_of b) t put.room }
 
   few_keys : changed_keys done ≤ changed_keys r + 1
   few_keys = keys_put r super_key (super_value (r.changes + 1) next) put.ready
@@ -69,7 +68,7 @@ module _ (b : Book) (live : Live) (sh : ShowsLive b live) (r : Run) (t : Tree) (
     low = put.low;
     few_changes = let e = count_is in let h = put.few_changes in omega arith;
     sees = sees;
-    saved = subst (λ m. IsSaved (limits_of b) m (tree_at (with_tree live.past t) live.mark) live.mark) (sym put.stable) (subst (λ u. IsSaved (limits_of b) b.run.machine.stable u live.mark) (sym (older live.past t live.mark sh.behind)) sh.saved);
+    saved = subst (λ m. IsWhole (limits_of b) m (tree_at (with_tree live.past t) live.mark) live.mark) (sym put.stable) (subst (λ u. IsWhole (limits_of b) b.run.machine.stable u live.mark) (sym (older live.past t live.mark sh.behind)) sh.saved);
     newest = newest live.past t;
     behind = let h = sh.behind in omega arith;
     desk = refl;
@@ -97,7 +96,7 @@ module _ (b : Book) (live : Live) (sh : ShowsLive b live) (r : Run) (t : Tree) (
     low = put.low;
     few_changes = let e = count_is in let h = put.few_changes in omega arith;
     sees = subst (λ m. Shows m t (live.past.count + 1)) (sym (seen_committed done ready)) sees;
-    saved = subst (λ u. IsSaved (limits_of b) (seen done) u (live.past.count + 1)) (sym (newest live.past t)) to_save;
+    saved = subst (λ u. IsWhole (limits_of b) (seen done) u (live.past.count + 1)) (sym (newest live.past t)) to_save;
     newest = newest live.past t;
     behind = omega arith;
     desk = refl;

@@ -50,10 +50,11 @@ use Rattle.kfs_posix.specs.Showing.{ShowsLive, GoesOn}
 use Rattle.kfs_posix.proofs.Maps.{mapped, find-map}
 use Rattle.kfs_posix.proofs.Slots.{find_without}
 use Rattle.kfs_posix.proofs.Held.{world_in, description, described, opened_same, file_is, close_from, closed_same, closed_file, swept_whole}
-use Rattle.kfs_posix.proofs.Going.{spare, spare_free, turn_goes, up_goes}
+use Rattle.kfs_posix.proofs.Going.{spare, spare_free, turn_goes, up_goes, Refuses}
 use Rattle.kfs_posix.proofs.Calls.{stands_of}
 use Rattle.kfs_posix.proofs.Planned.{Planned, world_shown, planned_goes, planned_falls, early_falls, unread_at, change_caused}
 use Rattle.kfs_posix.proofs.Unnaming.{both_of, below_none, open_is, swept_kept, swept_knows}
+use Rattle.kfs_core.specs.declared.fault.CoreFault.TheVariants.{Device}
 
 -- an entry that passes a test is found
 any_find : {X : Type 0} (p : X → Bool) (es : List (ℕ × X)) → T (is_sorted nat_cmp es) → list_any (λ e. p e.1) es ≡ true → (d : ℕ) × (x : X) × (find nat_cmp d es ≡ Some x) × (p x ≡ true)
@@ -220,14 +221,14 @@ module _ (old : Book) (fd : ℕ) (up : old.down ≡ None) where
             planned_goes old (deleted_in mid (orphan_key it.1.it.node)) (released_same old.run it.1.it.node size mid goes) call (closed old.files fd it.0) (4 + chunks_for size) (old.charge - (2 + chunks_for size)) (old.chunks - chunks_for size) count up (planned size judged mid goes)
 
         pub release_falls : (new : Book) (size : ℕ) (fault : DeviceFault) → release_at (inode_in (seen old.run) it.1.it.node) ≡ Ok size → new.down ≡ Some (cause_of fault) → limits_of new ≡ limits_of old → ReleaseFault old.run it.1.it.node size fault new.run.machine
-            → GoesOn old (lines.Call call) (answers.Reply (replies.Down (cause_of fault))) new
+            → Refuses old call (Device fault) new
         release_falls new size fault judged down limits (inl h) = early_falls old new call (2 + chunks_for size) fault up down limits can (λ live sh.
             let known = knows live.world.tree old.files fd it sh.holds has in
             few_chunks live.world.tree sh.tree it.1.it.node known.node known.there size (ok_is size (kind_of known.node).1 (sym judged ∙ release_finds (seen old.run) live.world.tree (stands_of old live sh) it.1.it.node known.node known.there))) h
         release_falls new size fault judged down limits (inr (mid, goes, h)) =
             planned_falls old (deleted_in mid (orphan_key it.1.it.node)) (released_same old.run it.1.it.node size mid goes) call (closed old.files fd it.0) (4 + chunks_for size) (old.charge - (2 + chunks_for size)) (old.chunks - chunks_for size) count up (planned size judged mid goes) new fault down limits can h
 
-      pub release_unread : (new : Book) (fault : DeviceFault) → new.down ≡ Some (cause_of fault) → limits_of new ≡ limits_of old → GetFault old.run fault new.run.machine → GoesOn old (lines.Call call) (answers.Reply (replies.Down (cause_of fault))) new
+      pub release_unread : (new : Book) (fault : DeviceFault) → new.down ≡ Some (cause_of fault) → limits_of new ≡ limits_of old → GetFault old.run fault new.run.machine → Refuses old call (Device fault) new
       release_unread new fault down limits h = unread_at old new call fault up down limits can h
 
       -- what is open is there, so it is released without an error

@@ -1,5 +1,5 @@
 -- What a session's method says of a call, as one record.
-use Rattle.std.proofs.Common.{◌≡◌, ℕ, ◌<◌, ◌+◌, ◌-◌, ◌^◌, true, refl, sym, ◌∙◌, ap, subst, arith, Option, None}
+use Rattle.std.proofs.Common.{◌≡◌, ℕ, ◌<◌, ◌+◌, ◌-◌, ◌^◌, refl, sym, ◌∙◌, ap, subst, arith, Option, None}
 use Rattle.kv_device.specs.Machine.{Machine}
 use Rattle.kfs_path.specs.declared.call.Call.{Call}
 use Rattle.kfs_path.specs.declared.call.Cause.{Cause}
@@ -11,16 +11,22 @@ use Rattle.kfs_core.specs.declared.fault.CoreFault.{CoreFault}
 use Rattle.kfs_core.specs.Core.{KfsState, run_in}
 use Rattle.kfs_posix.specs.Opens.{Opens}
 use Rattle.kfs_posix.specs.Book.{Book, SessionState, state_of, book_of, running_in}
-use Rattle.kfs_posix.specs.Answering.{Counts, KeepsCause, refusal, down_after}
-use Rattle.kfs_posix.specs.Showing.{GoesOn}
+use Rattle.kfs_posix.specs.Answering.{Counts, KeepsCause, refusal, down_after, IsAnswerable}
+use Rattle.kfs_posix.specs.Showing.{GoesOn, IsShowing}
 use Rattle.kfs_posix.proofs.Fault.{SameMachine, refused_keeps}
+use Rattle.kfs_posix.proofs.Going.{Refuses}
+use Rattle.kfs_posix.proofs.Shown.{answers_it}
 
--- the call is an event of a life, and its reply tells which counts rose and whether the session is up
+-- the call is an event of a life, and its reply tells which counts rose
 pub record Happens (old : SessionState) (call : Call) (reply : Reply) (k1 : KfsState) (o1 : Opens) (d1 : Option Cause) : Type 0 where
   pub goes : GoesOn old.book (lines.Call call) (answers.Reply reply) (book_of k1 o1 d1)
   pub counts : Counts old.book.run.machine reply (run_in k1).machine
   pub keeps : KeepsCause old.book reply (book_of k1 o1 d1)
-  pub awake : d1 ≡ None → (run_in k1).machine.up ≡ true
+
+-- the same of a call that failed; the device refused nothing
+pub record Fails (old : SessionState) (call : Call) (fault : CoreFault) (reply : Reply) (k1 : KfsState) (o1 : Opens) (d1 : Option Cause) : Type 0 where
+  pub happens : Happens old call reply k1 o1 d1
+  pub answerable : IsShowing old.book → IsAnswerable fault
 
 pub same_machine : (r : Run) → SameMachine r.machine r.machine
 same_machine r = record { up = refl; cuts = refl; faults = refl }
@@ -35,7 +41,7 @@ counted reply (plain c k) = c
 pub kept_up : (reply : Reply) → IsPlain reply → (old new : Book) → old.down ≡ None → new.down ≡ None → KeepsCause old reply new
 kept_up reply (plain c k) = k
 
-module _ (old : SessionState) (k0 k1 : KfsState) (o o1 : Opens) (d : Option Cause) (is : state_of k0 o d ≡ old) (up : d ≡ None) (awake : (run_in k0).machine.up ≡ true) (call : Call) where
+module _ (old : SessionState) (k0 k1 : KfsState) (o o1 : Opens) (d : Option Cause) (is : state_of k0 o d ≡ old) (up : d ≡ None) (call : Call) where
   -- answered
   pub answered : (reply : Reply) → IsPlain reply → (run : Run) (charge chunks : ℕ) (files : Opens) → SameMachine (run_in k0).machine run.machine → run_in k1 ≡ run → k1.charge ≡ charge → k1.chunks ≡ chunks → k1.keys ≡ k0.keys → k1.pages ≡ k0.pages → o1 ≡ files
       → GoesOn (book_of k0 o d) (lines.Call call) (answers.Reply reply) (record (book_of k0 o d) { run = run; charge = charge; chunks = chunks; files = files }) → Happens old call reply k1 o1 d
@@ -46,22 +52,23 @@ module _ (old : SessionState) (k0 k1 : KfsState) (o o1 : Opens) (d : Option Caus
     counts = subst (λ (s : SessionState). Counts s.book.run.machine reply (run_in k1).machine) is
         (counted reply is_plain (run_in k0).machine (run_in k1).machine (ap (λ (r : Run). r.machine.cuts) run_is ∙ same.cuts, ap (λ (r : Run). r.machine.faults) run_is ∙ same.faults));
     keeps = subst (λ (s : SessionState). KeepsCause s.book reply (book_of k1 o1 d)) is (kept_up reply is_plain (book_of k0 o d) (book_of k1 o1 d) up up);
-    awake = λ none. ap (λ (r : Run). r.machine.up) run_is ∙ same.up ∙ awake;
   }
 
   -- refused, or down
   pub failed : (fault : CoreFault) (reply : Reply) (d1 : Option Cause) → reply ≡ refusal fault → d1 ≡ down_after d fault → k1.charge ≡ k0.charge → k1.chunks ≡ k0.chunks → k1.keys ≡ k0.keys → k1.pages ≡ k0.pages → o1 ≡ o
-      → Counts (run_in k0).machine (refusal fault) (run_in k1).machine → (down_after d fault ≡ None → (run_in k1).machine.up ≡ true)
-      → GoesOn (book_of k0 o d) (lines.Call call) (answers.Reply (refusal fault)) (record (book_of k0 o d) { run = run_in k1; down = down_after d fault }) → Happens old call reply k1 o1 d1
-  failed fault reply d1 reply_is down charge_is chunks_is keys pages files_is counts up_still goes = record {
-    goes = subst (λ (s : SessionState). GoesOn s.book (lines.Call call) (answers.Reply reply) (book_of k1 o1 d1)) is
-        (subst (λ r. GoesOn (book_of k0 o d) (lines.Call call) (answers.Reply r) (book_of k1 o1 d1)) (sym reply_is)
-        (subst (λ (c : Book). GoesOn (book_of k0 o d) (lines.Call call) (answers.Reply (refusal fault)) c)
-        (λ i. record { run = run_in k1; keys = sym keys i; pages = sym pages i; charge = sym charge_is i; chunks = sym chunks_is i; files = sym files_is i; down = sym down i }) goes));
-    counts = subst (λ (s : SessionState). Counts s.book.run.machine reply (run_in k1).machine) is (subst (λ r. Counts (run_in k0).machine r (run_in k1).machine) (sym reply_is) counts);
-    keeps = subst (λ (s : SessionState). KeepsCause s.book reply (book_of k1 o1 d1)) is
-        (subst (λ r. KeepsCause (book_of k0 o d) r (book_of k1 o1 d1)) (sym reply_is) (refused_keeps (book_of k0 o d) (book_of k1 o1 d1) fault up down));
-    awake = λ none. up_still (sym down ∙ none);
+      → Counts (run_in k0).machine (refusal fault) (run_in k1).machine
+      → Refuses (book_of k0 o d) call fault (record (book_of k0 o d) { run = run_in k1; down = down_after d fault }) → Fails old call fault reply k1 o1 d1
+  failed fault reply d1 reply_is down charge_is chunks_is keys pages files_is counts refuses = record {
+    happens = record {
+      goes = subst (λ (s : SessionState). GoesOn s.book (lines.Call call) (answers.Reply reply) (book_of k1 o1 d1)) is
+          (subst (λ r. GoesOn (book_of k0 o d) (lines.Call call) (answers.Reply r) (book_of k1 o1 d1)) (sym reply_is)
+          (subst (λ (c : Book). GoesOn (book_of k0 o d) (lines.Call call) (answers.Reply (refusal fault)) c)
+          (λ i. record { run = run_in k1; keys = sym keys i; pages = sym pages i; charge = sym charge_is i; chunks = sym chunks_is i; files = sym files_is i; down = sym down i }) refuses.goes));
+      counts = subst (λ (s : SessionState). Counts s.book.run.machine reply (run_in k1).machine) is (subst (λ r. Counts (run_in k0).machine r (run_in k1).machine) (sym reply_is) counts);
+      keeps = subst (λ (s : SessionState). KeepsCause s.book reply (book_of k1 o1 d1)) is
+          (subst (λ r. KeepsCause (book_of k0 o d) r (book_of k1 o1 d1)) (sym reply_is) (refused_keeps (book_of k0 o d) (book_of k1 o1 d1) fault up down));
+    };
+    answerable = answers_it old k0 o d is up call fault (record (book_of k0 o d) { run = run_in k1; down = down_after d fault }) refuses;
   }
 
 -- ---- the next numbers are low enough

@@ -25,6 +25,7 @@ use Rattle.kfs_posix.specs.Book.{Book, SessionState, state_of, book_of, cause_of
 use Rattle.kfs_posix.specs.Answering.{Counts, KeepsCause, refusal, down_after}
 use Rattle.kfs_posix.specs.Showing.{GoesOn}
 use Rattle.kfs_posix.proofs.Calls.{read_falls}
+use Rattle.kfs_posix.proofs.Going.{Refuses, errs}
 
 -- ---- counts
 
@@ -78,20 +79,6 @@ pub refused_keeps : (old new : Book) (fault : CoreFault) → old.down ≡ None �
 refused_keeps old new (No e) up h = (up, h ∙ up)
 refused_keeps old new (Device f) up h = (up, h)
 
--- ---- up as long as no cause is kept
-
-pub read_awake : (old new : Run) (d : Option Cause) (fault : CoreFault) → old.machine.up ≡ true → LeavesAtFault old fault new → down_after d fault ≡ None → new.machine.up ≡ true
-read_awake old new d (No e) up h none = ap (λ (r : Run). r.machine.up) h ∙ up
-read_awake old new d (Device f) up h none = absurd (cc)
-
-pub commit_awake : (old new : Run) (d : Option Cause) (fault : CoreFault) → CommitFails old new fault → down_after d fault ≡ None → new.machine.up ≡ true
-commit_awake old new d (No e) h none = absurd h
-commit_awake old new d (Device f) h none = absurd (cc)
-
-pub add_awake : (old new : Run) (kind : ℕ) (judged : Result Where Errno) (d : Option Cause) (fault : CoreFault) → old.machine.up ≡ true → AddFails old kind judged fault new → down_after d fault ≡ None → new.machine.up ≡ true
-add_awake old new kind judged d (No e) up h none = ap (λ (r : Run). r.machine.up) h.1 ∙ up
-add_awake old new kind judged d (Device f) up h none = absurd (cc)
-
 -- what a boundary leaves of a run's device
 pub record SameMachine (old new : Machine) : Type 0 where
   pub up : new.up ≡ old.up
@@ -117,8 +104,8 @@ stays_book k0 k1 o d e = ap (λ (k : KfsState). book_of k o d) e
 -- answered by an error or the call's fault, where it only reads
 pub read_refused : (old : Book) (call : Call) (def : Result Reply Errno) (fault : CoreFault) (run : Run) → old.down ≡ None → Fails fault def → LeavesAtFault old.run fault run
     → ((w : World) → can_fail w call Eio ≡ true) → ((w : World) → can_fail w call NoMem ≡ true) → ((e : Errno) → def ≡ Err e → GoesOn old (lines.Call call) (answers.Reply (replies.Err e)) old)
-    → GoesOn old (lines.Call call) (answers.Reply (refusal fault)) (record old { run = run; down = down_after old.down fault })
-read_refused old call def (No e) run up fails leaves eio nomem goes = subst (λ r. GoesOn old (lines.Call call) (answers.Reply (replies.Err e)) (record old { run = r })) (sym leaves) (goes e fails)
+    → Refuses old call fault (record old { run = run; down = down_after old.down fault })
+read_refused old call def (No e) run up fails leaves eio nomem goes = errs old (record old { run = run }) call e (subst (λ r. GoesOn old (lines.Call call) (answers.Reply (replies.Err e)) (record old { run = r })) (sym leaves) (goes e fails))
 read_refused old call def (Device f) run up fails leaves eio nomem goes = read_falls old (record old { run = run; down = Some (cause_of f) }) call f eio nomem up refl refl leaves
 
 -- ---- the same of a session, by what it was made of

@@ -79,7 +79,7 @@ pub filled_goes : (old new : Book) (fd count byte : ℕ) (bytes : List ℕ) (rep
 filled_goes old new fd count byte bytes reply is goes = record {
   each = λ s shows.
       let e = goes.each s shows in
-      (e.0, write_event (limits_of old) s s.now fd (Plain bytes) (Fill count byte) reply e.0 (subst (λ x. SameBytes x (replicate count byte)) (sym is) (filled_same count byte)) e.1, e.2);
+      (e.0, write_event (limits_of old) s s.now fd (Plain bytes) (Fill count byte) reply e.0 (subst (λ x. SameBytes x (replicate count byte)) (sym is) (filled_same count byte)) e.1, e.2, e.3);
 }
 
 pub pfilled_goes : (old new : Book) (fd count byte : ℕ) (offset : ℤ) (bytes : List ℕ) (reply : Reply) → bytes ≡ replicate (min count 1048577) byte → GoesOn old (lines.Call (calls.Pwrite fd (Plain bytes) offset)) (answers.Reply reply) new
@@ -87,5 +87,5 @@ pub pfilled_goes : (old new : Book) (fd count byte : ℕ) (offset : ℤ) (bytes 
 pfilled_goes old new fd count byte offset bytes reply is goes = record {
   each = λ s shows.
       let e = goes.each s shows in
-      (e.0, pwrite_event (limits_of old) s s.now fd (Plain bytes) (Fill count byte) offset reply e.0 (subst (λ x. SameBytes x (replicate count byte)) (sym is) (filled_same count byte)) e.1, e.2);
+      (e.0, pwrite_event (limits_of old) s s.now fd (Plain bytes) (Fill count byte) offset reply e.0 (subst (λ x. SameBytes x (replicate count byte)) (sym is) (filled_same count byte)) e.1, e.2, e.3);
 }

@@ -5,6 +5,7 @@ pub mod Held
 pub mod Past
 pub mod Changing
 pub mod Going
+pub mod Shown
 pub mod Calls
 pub mod Turns
 pub mod OpenJudges
@@ -43,3 +44,4 @@ pub mod ResizeGoes
 pub mod ResizeEvents
 pub mod ResizeAnswers
 pub mod Unstruck
+pub mod NeverRefused

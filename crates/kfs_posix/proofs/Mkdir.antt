@@ -26,8 +26,9 @@ use Rattle.kfs_posix.proofs.Held.{new_holds}
 use Rattle.kfs_posix.proofs.Adding.{Adds, add_goes, add_falls}
 use Rattle.kfs_core.proofs.Adding.{free_place}
 use Rattle.kfs_posix.specs.Showing.{ShowsLive, GoesOn}
-use Rattle.kfs_posix.proofs.Going.{spare, spare_free, as_before, idle_goes, fall_goes}
+use Rattle.kfs_posix.proofs.Going.{spare, spare_free, as_before, idle_goes, fall_goes, Refuses}
 use Rattle.kfs_posix.proofs.Calls.{stands_of, any_cause}
+use Rattle.kfs_core.specs.declared.fault.CoreFault.TheVariants.{Device}
 
 -- where a place was found, there is room
 pub place_fits : (m : Objects) (keys charged : ℕ) (path : List ℕ) (w : Where) → place_in m keys charged path ≡ Ok w → charged + 2 ≤ keys
@@ -80,7 +81,7 @@ module _ (old : Book) (path : List ℕ) where
   mkdir_refused e up is = idle_goes old (calls.Mkdir path) (replies.Err e) up (λ w x. refl) refl (λ live sh.
       ap (λ (r : Result Place Errno). settled live.world (r >>= λ place. leaves live.world (with_new live.world.tree place Dir) replies.Done)) (judged_err live sh (mkdir_at (limits_of old) live.world.tree path) (place_in (seen old.run) old.keys old.charge path) e (same_place live sh) is))
 
-  pub mkdir_unread : (new : Book) (fault : DeviceFault) → old.down ≡ None → new.down ≡ Some (cause_of fault) → limits_of new ≡ limits_of old → GetFault old.run fault new.run.machine → GoesOn old (lines.Call (calls.Mkdir path)) (answers.Reply (replies.Down (cause_of fault))) new
+  pub mkdir_unread : (new : Book) (fault : DeviceFault) → old.down ≡ None → new.down ≡ Some (cause_of fault) → limits_of new ≡ limits_of old → GetFault old.run fault new.run.machine → Refuses old (calls.Mkdir path) (Device fault) new
   mkdir_unread new fault up down same h = fall_goes old new (calls.Mkdir path) fault up down same (λ live sh. record {
     stands = old.run.machine.stable;
     fallen = get_falls old.run fault new.run.machine sh.light.ready h;
@@ -89,6 +90,6 @@ module _ (old : Book) (path : List ℕ) where
   })
 
   pub mkdir_falls : (new : Book) (w : Where) (fault : DeviceFault) → old.down ≡ None → new.down ≡ Some (cause_of fault) → limits_of new ≡ limits_of old → old.run.next + 1 < 2 ^ 63 → old.run.changes + 1 < 2 ^ 63 → old.charge + 2 ≤ old.keys → place_in (seen old.run) old.keys old.charge path ≡ Ok w
-      → MakeFault old.run (parent_of w) w.name fault new.run.machine → GoesOn old (lines.Call (calls.Mkdir path)) (answers.Reply (replies.Down (cause_of fault))) new
+      → MakeFault old.run (parent_of w) w.name fault new.run.machine → Refuses old (calls.Mkdir path) (Device fault) new
   mkdir_falls new w fault up down same low count fits is h =
       add_falls old 1 Dir fresh_dir refl refl w low count new (calls.Mkdir path) replies.Done old.files fault up down same (λ world cause. any_cause world (calls.Mkdir path) refl refl refl cause) (adds w fits is) h

@@ -3,21 +3,20 @@ use Rattle.std.specs.List.{list_any}
 use Rattle.kfs_laws.proofs.Lookups.{same_numbers}
 use Rattle.kfs_shows.proofs.Sweeping.{nameless_test}
 use Rattle.kfs_core.proofs.Cleared.{kept_all, kept_both}
-use Rattle.std.proofs.Common.{◌≡◌, ℕ, ◌<◌, ◌≤◌, ◌-◌, ◌^◌, ◌&&◌, true, false, cond, Bool, refl, sym, ◌∙◌, ap, subst, arith, lit<, List, [], ◌∷◌, length, filter, sum_by, Some, None, nat_le, unwrap_or, option_and_then, slice_get, inl, inr, ◌==◌}
+use Rattle.std.proofs.Common.{◌≡◌, ℕ, ◌<◌, ◌≤◌, ◌-◌, ◌^◌, ◌&&◌, true, false, cond, Bool, refl, sym, ◌∙◌, ap, subst, arith, lit<, [], ◌∷◌, Some, None, nat_le, unwrap_or, option_and_then, slice_get, inl, inr, ◌==◌}
 use Rattle.std.specs.Ordering.{nat_cmp}
 use Rattle.std.specs.FinMap as objects
 use Rattle.std.specs.FinMap.{nat_cmp-IsAntisymmetric}
 use Rattle.std.specs.FinMap.Entries.{find-where_key, is_sorted-where_key}
 use Rattle.std.proofs.lemmas.Bool.Decides.{nat_tests}
-use Rattle.std.proofs.lemmas.List.Sums.{sum_by-cons}
 use Rattle.std.proofs.lemmas.Option.{same_Some}
-use Rattle.kv_device.specs.Objects.{Objects}
+use Rattle.kv_device.specs.Objects.{Objects, IsHeld}
 use Rattle.kv_device.specs.Machine.{Machine, none_open}
 use Rattle.kfs_objects.specs.Keys.{super_key}
 use Rattle.kfs_objects.specs.Records.{read_super}
 use Rattle.kfs_objects.proofs.RecordLaws.{read_super_value}
 use Rattle.kfs_model.specs.declared.Node.{Node}
-use Rattle.kfs_model.specs.Tree.{Tree, Limits, charge, chunks, chunks_of, has_room, is_named, node_of, root_alone, named, IsTree, IsKept}
+use Rattle.kfs_model.specs.Tree.{Tree, Limits, charge, chunks, is_named, node_of, root_alone, named, IsTree, IsKept}
 use Rattle.kfs_model.specs.Life.{Past, tree_at, ended_at, up_at}
 use Rattle.kfs_shows.specs.Shows.{Shows}
 use Rattle.kfs_shows.proofs.Counting.{few_objects}
@@ -30,17 +29,23 @@ use Rattle.kfs_core.specs.Stands.{Stands}
 use Rattle.kfs_core.specs.Starting.{Started}
 use Rattle.kfs_core.proofs.Charged.{charge_same, chunks_same}
 use Rattle.kfs_posix.specs.Opens.{Opens, no_files}
-use Rattle.kfs_posix.specs.Book.{book_of}
-use Rattle.kfs_posix.specs.Showing.{ShowsLive, IsSaved}
+use Rattle.kfs_posix.specs.Book.{book_of, Book}
+use Rattle.kfs_posix.specs.Showing.{ShowsLive, IsSaved, IsWhole, IsShowing}
 use Rattle.kfs_posix.specs.Mounting.{limits_in, IsStored, Mounts}
 use Rattle.kfs_posix.proofs.Held.{nothing_holds}
 use Rattle.kfs_posix.proofs.Rooms.{both_true, named_fits}
+use Rattle.kfs_judge.specs.Judging.{heard, room_in, AreNameable}
+use Rattle.kfs_judge.proofs.Hearing.{all_heard}
+use Rattle.kfs_judge.proofs.Spelled.{keyed}
+use Rattle.kfs_damages.specs.Damages.{IsClear}
+use Rattle.kfs_damages.proofs.Clear.{clear_stands}
+use Rattle.std.specs.Option.{unwrap_or}
 
 there : (past : Past) (k : ℕ) → tree_at (ended_at past k) k ≡ named (tree_at past k)
 there past k = let zero' : k - k ≡ 0 = omega arith in ap (λ i. unwrap_or (slice_get (ended_at past k).trees i) root_alone) zero'
 
 -- a tree without some of its nameless nodes loses the same nodes
-named_kept_same : (t kept : Tree) → IsTree t → IsKept t kept → named kept ≡ named t
+pub named_kept_same : (t kept : Tree) → IsTree t → IsKept t kept → named kept ≡ named t
 named_kept_same t kept tree is = λ i. record { names = is.names i; nodes = nodes i; next = is.next i }
   where
     test : (n : ℕ) → is_named kept n ≡ is_named t n
@@ -100,7 +105,7 @@ module _ (old : Machine) (up : old.up ≡ true) (idle : old.pending ≡ none_ope
       let held : objects.len now < 2 ^ 32 = omega arith in
       let over : Machine = record old { stable = now } in
       let stands : Stands now u = record { tree = shown.0; shows = shown.1.tree; low = low } in
-      let stored : IsSaved (limits_in old) now u k = record { tree = shown.0; kept = u; is_kept = kept_all u shown.0; kept_tree = shown.0; shows = shown.1; next = before.next; count = before.count; room = named_fits (limits_in old) u room } in (
+      let stored : IsWhole (limits_in old) now u k = record { tree = shown.0; shows = shown.1; next = before.next; count = before.count; room = named_fits (limits_in old) u room } in (
         changes_is,
         record {
           up = refl;
@@ -108,7 +113,7 @@ module _ (old : Machine) (up : old.up ≡ true) (idle : old.pending ≡ none_ope
           low = before.next;
           few_changes = before.count;
           sees = subst (λ m. Shows m u k) (sym (sees_stable over up idle)) shown.1;
-          saved = subst (λ v. IsSaved (record { keys = keys; pages = pages }) now v k) (sym (there past k)) (subst (λ l. IsSaved l now u k) (λ i. record { keys = sym keys_is i; pages = sym pages_is i }) stored);
+          saved = subst (λ v. IsWhole (record { keys = keys; pages = pages }) now v k) (sym (there past k)) (subst (λ l. IsWhole l now u k) (λ i. record { keys = sym keys_is i; pages = sym pages_is i }) stored);
           newest = there past k;
           behind = let e : k ≤ k = omega arith in e;
           desk = refl;
@@ -134,3 +139,33 @@ module _ (old : Machine) (up : old.up ≡ true) (idle : old.pending ≡ none_ope
       subst (λ x. Mounts old (book_of kfs x None)) (sym none)
       (subst (λ (x : Run). Mounts old (record { run = x; keys = kfs.keys; pages = kfs.pages; charge = kfs.charge; chunks = kfs.chunks; files = no_files; down = None })) (sym h.run)
       (record { each = shows_live now h.cleared r.changes r.next kfs.keys kfs.pages kfs.charge kfs.chunks h.keys h.pages (let e = h.keys in omega arith) h.head h.charge h.chunks }))
+
+-- ---- each session that is mounted shows some live state
+
+-- nothing is removed of what is shown exactly
+pub whole_saved : (k : Limits) (m : Objects) (t : Tree) (n : ℕ) → IsWhole k m t n → IsSaved k m t n
+whole_saved k m t n whole = record { tree = whole.tree; kept = t; is_kept = kept_all t whole.tree; kept_tree = whole.tree; shows = whole.shows; next = whole.next; count = whole.count; room = whole.room }
+
+-- a call can name each object that a device can hold
+pub held_nameable : (m : Objects) → IsHeld m → AreNameable m
+held_nameable m held key value there = keyed key key (held.keys key value there) refl (held.key_sizes key value there)
+
+-- the tree alone
+abbrev lone : Tree → ℕ → Past
+lone t k = record { count = k; trees = t ∷ [] }
+
+lone_there : (t : Tree) (k : ℕ) → tree_at (lone t k) k ≡ t
+lone_there t k = let e : k - k ≡ 0 = omega arith in ap (λ i. unwrap_or (slice_get (t ∷ []) i) root_alone) e
+
+-- what isn't damaged stands for a tree, which is mounted
+pub mount_showing : (old : Machine) (new : Book) → IsHeld old.stable → IsClear (room_in old) (heard old.stable) → Mounts old new → IsShowing new
+mount_showing old new held clear mounts none =
+    let here = subst (IsClear (room_in old)) (all_heard old.stable (held_nameable old.stable held)) clear in
+    let it = clear_stands (room_in old) old.stable held here in
+    let t = it.0 in
+    let k = it.1 in
+    let few = it.2.few in
+    let low = it.2.low in
+    let whole : IsWhole (limits_in old) old.stable t k = record { tree = it.2.tree; shows = it.2.shows; next = omega arith; count = omega arith; room = it.2.room } in
+    let stored : IsStored old (tree_at (lone t k) k) k = subst (λ u. IsSaved (limits_in old) old.stable u k) (sym (lone_there t k)) (whole_saved (limits_in old) old.stable t k whole) in
+    ∣ (up_at (lone t k) k, (mounts.each (lone t k) k stored).1) ∣₁

@@ -35,8 +35,9 @@ use Rattle.kfs_posix.proofs.WriteEvents.{space_of}
 use Rattle.kfs_posix.proofs.ResizeGoes.{Lengthens}
 use Rattle.kfs_posix.proofs.ResizeEvents.{length_weighs, length_holds}
 use Rattle.kfs_posix.proofs.Adding.{Adds, add_goes, add_falls}
-use Rattle.kfs_posix.proofs.Going.{spare, spare_free, idle_goes, turn_goes}
+use Rattle.kfs_posix.proofs.Going.{spare, spare_free, idle_goes, turn_goes, Refuses}
 use Rattle.kfs_posix.proofs.Calls.{stands_of, any_cause, unread_falls}
+use Rattle.kfs_core.specs.declared.fault.CoreFault.TheVariants.{Device}
 
 module _ (old : Book) (path : List ℕ) (flags : Flags) where
   abbrev call : Call
@@ -133,10 +134,10 @@ module _ (old : Book) (path : List ℕ) (flags : Flags) where
         room = (λ i. nat_le (charge_resized t sh.tree n h.0 h.3 0 i) old.keys && nat_le (chunks_resized t sh.tree n h.0 h.3 0 i) old.pages) ∙ cut_fits (limits_of old) t sh.room (length h.0);
       }
 
-  pub open_unread : (new : Book) (fault : DeviceFault) → old.down ≡ None → new.down ≡ Some (cause_of fault) → limits_of new ≡ limits_of old → GetFault old.run fault new.run.machine → GoesOn old (lines.Call call) (answers.Reply (replies.Down (cause_of fault))) new
+  pub open_unread : (new : Book) (fault : DeviceFault) → old.down ≡ None → new.down ≡ Some (cause_of fault) → limits_of new ≡ limits_of old → GetFault old.run fault new.run.machine → Refuses old call (Device fault) new
   open_unread new fault up down same h = unread_falls old new call fault (λ w cause. any_cause w call refl refl refl cause) up down same h
 
   pub open_falls : (new : Book) (fd : ℕ) (v : Where) (fault : DeviceFault) → old.down ≡ None → new.down ≡ Some (cause_of fault) → limits_of new ≡ limits_of old → old.run.next + 1 < 2 ^ 63 → old.run.changes + 1 < 2 ^ 63 → judge ≡ Ok (New v fd)
-      → CreateFault old.run (parent_of v) v.name fault new.run.machine → GoesOn old (lines.Call call) (answers.Reply (replies.Down (cause_of fault))) new
+      → CreateFault old.run (parent_of v) v.name fault new.run.machine → Refuses old call (Device fault) new
   open_falls new fd v fault up down same low count is h =
       add_falls old 2 (File []) fresh_file refl refl v low count new call (replies.Number fd) (opened_as o fd (spare old) new_file) fault up down same (λ w cause. any_cause w call refl refl refl cause) (adds fd (spare old) v (spare_free old) is) h

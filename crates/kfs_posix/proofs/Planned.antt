@@ -24,11 +24,12 @@ use Rattle.kfs_core.proofs.Plans.{Plan}
 use Rattle.kfs_posix.specs.Opens.{Opens, desk_of}
 use Rattle.kfs_posix.specs.Holding.{Holds}
 use Rattle.kfs_posix.specs.Book.{Book, limits_of, cause_of}
-use Rattle.kfs_posix.specs.Showing.{ShowsLive, IsSaved, GoesOn}
+use Rattle.kfs_posix.specs.Showing.{ShowsLive, IsWhole, GoesOn}
 use Rattle.kfs_posix.proofs.Changing.{IsPut, change_shown, sees, to_save}
-use Rattle.kfs_posix.proofs.Going.{Fell, spare, spare_free, as_before, as_after, change_goes_at, fall_goes}
+use Rattle.kfs_posix.proofs.Going.{Fell, spare, spare_free, as_before, as_after, change_goes_at, fall_goes, Refuses}
 use Rattle.kfs_posix.proofs.Calls.{room_for}
 use Rattle.kfs_posix.proofs.Fault.{SameMachine}
+use Rattle.kfs_core.specs.declared.fault.CoreFault.TheVariants.{Device}
 
 -- the world that the objects show
 pub world_shown : (b : Book) (live : Live) → ShowsLive b live → ShowsWorld (seen b.run) live.world
@@ -133,7 +134,7 @@ module _ (old : Book) (mid : Run) (same : mid ≡ pending_of mid old.run) (call 
 
   -- where the change was counted
   pub planned_falls : (new : Book) (fault : DeviceFault) → new.down ≡ Some (cause_of fault) → limits_of new ≡ limits_of old → ((live : Live) → ShowsLive old live → (cause : Cause) → can_fail live.world call cause ≡ true)
-      → ChangeFault mid n mid.next fault new.run.machine → GoesOn old (lines.Call call) (answers.Reply (replies.Down (cause_of fault))) new
+      → ChangeFault mid n mid.next fault new.run.machine → Refuses old call (Device fault) new
   planned_falls new fault down limits can h = fall_goes old new call fault up down limits fell
     where
       fell : (live : Live) → ShowsLive old live → Fell old new live call fault
@@ -157,14 +158,14 @@ module _ (old : Book) (mid : Run) (same : mid ≡ pending_of mid old.run) (call 
               fallen = fallen_from old.run mid fault (seen (with_super mid mid.next)) new.run.machine same y.1.cause y.1.stable y.1.bounds;
               stood = as_after n (ap (weight live.world call) step_is ∙ x.plan.weighs)
                   (ap (λ (a : After). is_boundary live.since call a.reply (Some n)) step_is ∙ (λ i. is_full (sym sh.changes i + 1) (sym sh.weight i + n)) ∙ (λ i. is_full (sym put.since i + 1) (sym put.weight i + n)) ∙ y.0)
-                  (subst (λ (t : Tree). IsSaved (limits_of old) (seen (with_super mid mid.next)) t (live.past.count + 1)) (ap (λ (a : After). a.world.tree) (sym step_is)) saved);
+                  (subst (λ (t : Tree). IsWhole (limits_of old) (seen (with_super mid mid.next)) t (live.past.count + 1)) (ap (λ (a : After). a.world.tree) (sym step_is)) saved);
               can = λ cause e. can live sh cause;
             }
           ]
 
 -- before any of the change was counted
 pub early_falls : (old new : Book) (call : Call) (m : ℕ) (fault : DeviceFault) → old.down ≡ None → new.down ≡ Some (cause_of fault) → limits_of new ≡ limits_of old → ((live : Live) → ShowsLive old live → (cause : Cause) → can_fail live.world call cause ≡ true)
-    → ((live : Live) → ShowsLive old live → m ≤ 260) → Fails old.run m fault new.run.machine → GoesOn old (lines.Call call) (answers.Reply (replies.Down (cause_of fault))) new
+    → ((live : Live) → ShowsLive old live → m ≤ 260) → Fails old.run m fault new.run.machine → Refuses old call (Device fault) new
 early_falls old new call m fault up down limits can few h = fall_goes old new call fault up down limits (λ live sh. record {
   stands = old.run.machine.stable;
   fallen = h.fallen sh.light.ready (let a = few live sh in let b = sh.light.few in let c = sh.light.light in omega arith);
@@ -174,7 +175,7 @@ early_falls old new call m fault up down limits can few h = fall_goes old new ca
 
 -- before anything was asked of the transaction but to read
 pub unread_at : (old new : Book) (call : Call) (fault : DeviceFault) → old.down ≡ None → new.down ≡ Some (cause_of fault) → limits_of new ≡ limits_of old → ((live : Live) → ShowsLive old live → (cause : Cause) → can_fail live.world call cause ≡ true)
-    → GetFault old.run fault new.run.machine → GoesOn old (lines.Call call) (answers.Reply (replies.Down (cause_of fault))) new
+    → GetFault old.run fault new.run.machine → Refuses old call (Device fault) new
 unread_at old new call fault up down limits can h = fall_goes old new call fault up down limits (λ live sh. record {
   stands = old.run.machine.stable;
   fallen = get_falls old.run fault new.run.machine sh.light.ready h;

@@ -13,7 +13,8 @@ use Rattle.kfs_core.specs.Core.{KfsState, run_in, Stays}
 use Rattle.kfs_posix.specs.Opens.{Opens}
 use Rattle.kfs_posix.specs.Book.{Book, SessionState, state_of, book_of, limits_of}
 use Rattle.kfs_posix.proofs.Fault.{stays_book}
-use Rattle.kfs_posix.specs.Showing.{ShowsLive, ShowsNow, ShowsState, GoesOn}
+use Rattle.kfs_posix.specs.Showing.{ShowsLive, ShowsNow, ShowsState, GoesOn, IsShowing}
+use Rattle.std.proofs.Math.Logic.{∥∥₁_map}
 
 -- other bounds on the counts
 abbrev bounded : Run → ℕ → ℕ → Run
@@ -67,7 +68,7 @@ still_shows b cuts faults (Up live) sh = still_live b cuts faults live sh
 still_shows b cuts faults (Down past may) sh = record { cause = sh.cause; down = sh.down; stands = sh.stands; may_be = sh.may_be; saved = sh.saved; keys = sh.keys; pages = sh.pages }
 
 pub plan_goes : (b : Book) (n how : ℕ) → b.run.machine.cuts + 1 < 2 ^ 63 → GoesOn b (lines.Cut n how) (answers.Reply replies.Done) (planned_book b)
-plan_goes b n how few = record { each = λ s showing. by s showing s.now showing.now }
+plan_goes b n how few = record { each = λ s fits. by s s.now fits.now }
   where
     shown : (s : State) → ShowsState b s → (now : Now) → ShowsNow b now → ShowsState (planned_book b) (record { now = now; cut_armed = true; fail_armed = s.fail_armed })
     shown s showing now sh = record {
@@ -80,9 +81,9 @@ plan_goes b n how few = record { each = λ s showing. by s showing s.now showing
       few_faults = showing.few_faults;
     }
 
-    by : (s : State) → ShowsState b s → (now : Now) → ShowsNow b now → (t : State) × EventAt (limits_of b) s now (lines.Cut n how) (answers.Reply replies.Done) t × ShowsState (planned_book b) t
-    by s showing (Up live) sh = (record { now = Up live; cut_armed = true; fail_armed = s.fail_armed }, (refl, refl), shown s showing (Up live) sh)
-    by s showing (Down past may) sh = (record { now = Down past may; cut_armed = true; fail_armed = s.fail_armed }, (refl, refl), shown s showing (Down past may) sh)
+    by : (s : State) (now : Now) → ShowsNow b now → (t : State) × EventAt (limits_of b) s now (lines.Cut n how) (answers.Reply replies.Done) t × ShowsNow (planned_book b) t.now × (ShowsState b s → ShowsState (planned_book b) t)
+    by s (Up live) sh = (record { now = Up live; cut_armed = true; fail_armed = s.fail_armed }, (refl, refl), still_shows b (with_most_cuts b.run.machine).most_cuts b.run.machine.most_faults (Up live) sh, λ showing. shown s showing (Up live) sh)
+    by s (Down past may) sh = (record { now = Down past may; cut_armed = true; fail_armed = s.fail_armed }, (refl, refl), still_shows b (with_most_cuts b.run.machine).most_cuts b.run.machine.most_faults (Down past may) sh, λ showing. shown s showing (Down past may) sh)
 
 pub plan_by : (old : SessionState) (k0 k1 : KfsState) (o : Opens) (d : Option Cause) (n how : ℕ) → state_of k0 o d ≡ old → Stays k0 k1 → run_in k1 ≡ planned_run (run_in k0) → old.book.run.machine.cuts + 1 < 2 ^ 63 → GoesOn old.book (lines.Cut n how) (answers.Reply replies.Done) (book_of k1 o d)
 plan_by old k0 k1 o d n how is rest planned few =
@@ -92,7 +93,7 @@ plan_by old k0 k1 o d n how is rest planned few =
     (subst (λ c. GoesOn (book_of k0 o d) (lines.Cut n how) (answers.Reply replies.Done) c) (sym e) (plan_goes (book_of k0 o d) n how low))
 
 pub fail_goes : (b : Book) (kind n most : ℕ) → b.run.machine.faults ≤ most → most ≤ one_more b.run.machine.faults → b.run.machine.faults + 1 < 2 ^ 63 → GoesOn b (lines.Fail kind n) (answers.Reply replies.Done) (failing_book b most)
-fail_goes b kind n most fewest least few = record { each = λ s showing. by s showing s.now showing.now }
+fail_goes b kind n most fewest least few = record { each = λ s fits. by s s.now fits.now }
   where
     shown : (s : State) → ShowsState b s → (now : Now) → ShowsNow b now → ShowsState (failing_book b most) (record { now = now; cut_armed = s.cut_armed; fail_armed = true })
     shown s showing now sh = record {
@@ -105,9 +106,9 @@ fail_goes b kind n most fewest least few = record { each = λ s showing. by s sh
       few_faults = omega arith;
     }
 
-    by : (s : State) → ShowsState b s → (now : Now) → ShowsNow b now → (t : State) × EventAt (limits_of b) s now (lines.Fail kind n) (answers.Reply replies.Done) t × ShowsState (failing_book b most) t
-    by s showing (Up live) sh = (record { now = Up live; cut_armed = s.cut_armed; fail_armed = true }, (refl, refl), shown s showing (Up live) sh)
-    by s showing (Down past may) sh = (record { now = Down past may; cut_armed = s.cut_armed; fail_armed = true }, (refl, refl), shown s showing (Down past may) sh)
+    by : (s : State) (now : Now) → ShowsNow b now → (t : State) × EventAt (limits_of b) s now (lines.Fail kind n) (answers.Reply replies.Done) t × ShowsNow (failing_book b most) t.now × (ShowsState b s → ShowsState (failing_book b most) t)
+    by s (Up live) sh = (record { now = Up live; cut_armed = s.cut_armed; fail_armed = true }, (refl, refl), still_shows b b.run.machine.most_cuts most (Up live) sh, λ showing. shown s showing (Up live) sh)
+    by s (Down past may) sh = (record { now = Down past may; cut_armed = s.cut_armed; fail_armed = true }, (refl, refl), still_shows b b.run.machine.most_cuts most (Down past may) sh, λ showing. shown s showing (Down past may) sh)
 
 pub fail_by : (old : SessionState) (k0 k1 : KfsState) (o : Opens) (d : Option Cause) (kind n most : ℕ) → state_of k0 o d ≡ old → Stays k0 k1 → run_in k1 ≡ failing_run (run_in k0) most
     → (run_in k0).machine.faults ≤ most → most ≤ one_more (run_in k0).machine.faults → old.book.run.machine.faults + 1 < 2 ^ 63 → GoesOn old.book (lines.Fail kind n) (answers.Reply replies.Done) (book_of k1 o d)
@@ -116,3 +117,20 @@ fail_by old k0 k1 o d kind n most is rest planned fewest least few =
     let low : (run_in k0).machine.faults + 1 < 2 ^ 63 = subst (λ (s : SessionState). s.book.run.machine.faults + 1 < 2 ^ 63) (sym is) few in
     subst (λ (s : SessionState). GoesOn s.book (lines.Fail kind n) (answers.Reply replies.Done) (book_of k1 o d)) is
     (subst (λ c. GoesOn (book_of k0 o d) (lines.Fail kind n) (answers.Reply replies.Done) c) (sym e) (fail_goes (book_of k0 o d) kind n most fewest least low))
+
+-- ---- some live state is shown still
+
+-- whatever the bounds are
+bounded_showing : (b : Book) (cuts faults : ℕ) → IsShowing b → IsShowing (bounded_book b cuts faults)
+bounded_showing b cuts faults showing none = ∥∥₁_map (showing none) (λ x. (x.0, still_live b cuts faults x.0 x.1))
+
+pub cut_showing : (k0 k1 : KfsState) (o : Opens) (d : Option Cause) → Stays k0 k1 → run_in k1 ≡ planned_run (run_in k0) → IsShowing (book_of k0 o d) → IsShowing (book_of k1 o d)
+cut_showing k0 k1 o d rest planned showing =
+    let e : book_of k1 o d ≡ planned_book (book_of k0 o d) = stays_book k0 k1 o d rest ∙ (λ i. record (book_of k0 o d) { run = planned i }) in
+    let m = (run_in k0).machine in
+    subst IsShowing (sym e) (bounded_showing (book_of k0 o d) (with_most_cuts m).most_cuts m.most_faults showing)
+
+pub fail_showing : (k0 k1 : KfsState) (o : Opens) (d : Option Cause) (most : ℕ) → Stays k0 k1 → run_in k1 ≡ failing_run (run_in k0) most → IsShowing (book_of k0 o d) → IsShowing (book_of k1 o d)
+fail_showing k0 k1 o d most rest planned showing =
+    let e : book_of k1 o d ≡ failing_book (book_of k0 o d) most = stays_book k0 k1 o d rest ∙ (λ i. record (book_of k0 o d) { run = planned i }) in
+    subst IsShowing (sym e) (bounded_showing (book_of k0 o d) (run_in k0).machine.most_cuts most showing)

@@ -21,7 +21,7 @@ use Rattle.kfs_model.specs.Step.{settled, step, or_else, readable, is_open_dir, 
 use Rattle.kfs_model.specs.Life.{Live}
 use Rattle.kfs_tx.specs.Run.{seen, GetFault}
 use Rattle.kfs_core.specs.Files.{Reads}
-use Rattle.kfs_core.specs.declared.fault.CoreFault.TheVariants.{No}
+use Rattle.kfs_core.specs.declared.fault.CoreFault.TheVariants.{No, Device}
 use Rattle.kfs_core.proofs.FileJudges.{content_is, reads_piece, reads_always}
 use Rattle.kfs_posix.specs.declared.open_files.OpenFile.{OpenFile}
 use Rattle.kfs_posix.specs.Opens.{Opens, open_at, desk_of, with_file}
@@ -31,7 +31,7 @@ use Rattle.kfs_posix.specs.Reading.{readable_in, readable_at}
 use Rattle.kfs_posix.specs.Book.{Book, limits_of, cause_of}
 use Rattle.kfs_posix.specs.Showing.{ShowsLive, GoesOn}
 use Rattle.kfs_posix.proofs.Held.{world_in, described, opened_same, file_is, with_file_desk, file_holds, moved_knows}
-use Rattle.kfs_posix.proofs.Going.{spare, spare_free, idle_goes, turn_goes, up_goes}
+use Rattle.kfs_posix.proofs.Going.{spare, spare_free, idle_goes, turn_goes, up_goes, Refuses}
 use Rattle.kfs_posix.proofs.Calls.{stands_of, read_falls}
 
 -- ---- the judge
@@ -176,7 +176,7 @@ module _ (old : Book) (fd count : ℕ) where
   pub read_never : (it : ℕ × OpenFile) (place : ℕ) (e : Errno) (call : Call) (reply : Reply) (new : Book) → old.down ≡ None → readable_in o fd count ≡ Ok it → Reads (seen old.run) it.1.it.node place count (Err (No e)) → GoesOn old (lines.Call call) (answers.Reply reply) new
   read_never it place e call reply new up judged reads = up_goes old new call reply up (λ s live showing sh. absurd (never it place e judged reads live sh))
 
-  pub read_unread : (new : Book) (fault : DeviceFault) → old.down ≡ None → new.down ≡ Some (cause_of fault) → limits_of new ≡ limits_of old → GetFault old.run fault new.run.machine → GoesOn old (lines.Call (calls.Read fd count)) (answers.Reply (replies.Down (cause_of fault))) new
+  pub read_unread : (new : Book) (fault : DeviceFault) → old.down ≡ None → new.down ≡ Some (cause_of fault) → limits_of new ≡ limits_of old → GetFault old.run fault new.run.machine → Refuses old (calls.Read fd count) (Device fault) new
   read_unread new fault up down same h = read_falls old new (calls.Read fd count) fault (λ w. refl) (λ w. refl) up down same h
 
   -- ---- pread
@@ -220,7 +220,7 @@ module _ (old : Book) (fd count : ℕ) where
         ∙ (λ i. settled w (as_described (both.0 i) >>= λ it. (EINVAL when both.1 i) >> answered_by w (replies.Read (piece_at (content t it.1.node) (natural offset) count))))
         ∙ (λ i. record { world = record { tree = t; desk = sym sh.desk i }; reply = replies.Read (x.piece i) }))
 
-    pub pread_unread : (new : Book) (fault : DeviceFault) → old.down ≡ None → new.down ≡ Some (cause_of fault) → limits_of new ≡ limits_of old → GetFault old.run fault new.run.machine → GoesOn old (lines.Call (calls.Pread fd count offset)) (answers.Reply (replies.Down (cause_of fault))) new
+    pub pread_unread : (new : Book) (fault : DeviceFault) → old.down ≡ None → new.down ≡ Some (cause_of fault) → limits_of new ≡ limits_of old → GetFault old.run fault new.run.machine → Refuses old (calls.Pread fd count offset) (Device fault) new
     pread_unread new fault up down same h = read_falls old new (calls.Pread fd count offset) fault (λ w. refl) (λ w. refl) up down same h
 
     pub pread_first : (it : ℕ × OpenFile) → readable_at o fd count offset ≡ Ok it → readable_in o fd count ≡ Ok it

@@ -26,10 +26,11 @@ use Rattle.kfs_posix.specs.Book.{Book, SessionState, state_of, book_of, running_
 use Rattle.kfs_posix.specs.Answering.{refusal, down_after}
 use Rattle.kfs_posix.specs.Showing.{GoesOn}
 use Rattle.kfs_posix.proofs.Fault.{caused_counts, alone_caused}
-use Rattle.kfs_posix.proofs.Events.{Happens, same_machine, answered, failed, low_count}
+use Rattle.kfs_posix.proofs.Events.{Happens, same_machine, answered, failed, low_count, Fails}
 use Rattle.kfs_posix.proofs.Planned.{changed_same}
 use Rattle.kfs_posix.proofs.UnnameAnswers.{done_plain}
 use Rattle.kfs_posix.proofs.RenameGoes.{moved_same, rename_caused, rename_rest, rename_no, rename_goes, rename_falls, rename_unread}
+use Rattle.kfs_posix.proofs.Going.{errs}
 
 -- what the call failed with, by the paths' texts
 pub rename_not_done : (old new : KfsState) (o : Opens) (p q : List ℕ) (from to : Route) (judge : Route → Route → Result (Option Move) Errno) (nodes : List (List ℕ)) (fault : CoreFault) → syntax p ≡ Ok from → syntax q ≡ Ok to → nodes ≡ nodes_of o
@@ -54,28 +55,28 @@ module _ (old : SessionState) (k0 k1 : KfsState) (o o1 : Opens) (d : Option Caus
     where
       by : (x : Option Move) → judge ≡ Ok x → MovesTo k0 x (open_now o) k1 → o1 ≡ without_replaced o (option_and_then replaced_node x) → Happens old call replies.Done k1 o1 d
       by None judged same files =
-          answered old k0 k1 o o1 d is up awake call replies.Done done_plain (run_in k0) k0.charge k0.chunks o (same_machine (run_in k0))
+          answered old k0 k1 o o1 d is up call replies.Done done_plain (run_in k0) k0.charge k0.chunks o (same_machine (run_in k0))
           (ap run_in same) (ap (λ (k : KfsState). k.charge) same) (ap (λ (k : KfsState). k.chunks) same) (ap (λ (k : KfsState). k.keys) same) (ap (λ (k : KfsState). k.pages) same) files
           (rename_rest b from to up judged)
       by (Some move) judged (moves, frees) files =
           let n = 4 + chunks_replaced move.replaced (open_now o) in
-          answered old k0 k1 o o1 d is up awake call replies.Done done_plain (one_change (with_moved moves.mid move) n moves.mid.next) (k0.charge - keys_replaced move.replaced (open_now o)) (k0.chunks - chunks_replaced move.replaced (open_now o))
+          answered old k0 k1 o o1 d is up call replies.Done done_plain (one_change (with_moved moves.mid move) n moves.mid.next) (k0.charge - keys_replaced move.replaced (open_now o)) (k0.chunks - chunks_replaced move.replaced (open_now o))
           (without_replaced o (replaced_node move))
           (changed_same (run_in k0) (with_moved moves.mid move) (moved_same (run_in k0) move (open_now o) moves.mid moves.replaces) n moves.mid.next)
           moves.change (ap (λ (k : KfsState). k.charge) frees) (ap (λ (k : KfsState). k.chunks) frees) (ap (λ (k : KfsState). k.keys) frees) (ap (λ (k : KfsState). k.pages) frees) files
           (rename_goes b from to up move judged (low_count old k0 o d is age) moves.mid moves.replaces)
 
-  pub rename_failed : (fault : CoreFault) (reply : Reply) (d1 : Option Cause) → NotRenamed k0 o judge fault k1 o1 → reply ≡ refusal fault → d1 ≡ down_after d fault → Happens old call reply k1 o1 d1
+  pub rename_failed : (fault : CoreFault) (reply : Reply) (d1 : Option Cause) → NotRenamed k0 o judge fault k1 o1 → reply ≡ refusal fault → d1 ≡ down_after d fault → Fails old call fault reply k1 o1 d1
   rename_failed (No e) reply d1 h reply_is down =
       let machine = ap (λ (k : KfsState). (run_in k).machine) h.1 in
-      failed old k0 k1 o o1 d is up awake call (No e) reply d1 reply_is down (ap (λ (k : KfsState). k.charge) h.1) (ap (λ (k : KfsState). k.chunks) h.1) (ap (λ (k : KfsState). k.keys) h.1) (ap (λ (k : KfsState). k.pages) h.1) h.2
-      (ap (λ (m : Machine). m.cuts) machine, ap (λ (m : Machine). m.faults) machine) (λ none. ap (λ (m : Machine). m.up) machine ∙ awake)
-      (subst (λ (r : Run). GoesOn b (lines.Call call) (answers.Reply (replies.Err e)) (record b { run = r })) (sym (ap run_in h.1)) (rename_no b from to up e h.0))
+      failed old k0 k1 o o1 d is up call (No e) reply d1 reply_is down (ap (λ (k : KfsState). k.charge) h.1) (ap (λ (k : KfsState). k.chunks) h.1) (ap (λ (k : KfsState). k.keys) h.1) (ap (λ (k : KfsState). k.pages) h.1) h.2
+      (ap (λ (m : Machine). m.cuts) machine, ap (λ (m : Machine). m.faults) machine)
+      (errs b (record b { run = run_in k1 }) call e (subst (λ (r : Run). GoesOn b (lines.Call call) (answers.Reply (replies.Err e)) (record b { run = r })) (sym (ap run_in h.1)) (rename_no b from to up e h.0)))
   rename_failed (Device f) reply d1 (stays, files, inl unread) reply_is down =
-      failed old k0 k1 o o1 d is up awake call (Device f) reply d1 reply_is down (ap (λ (k : KfsState). k.charge) stays) (ap (λ (k : KfsState). k.chunks) stays) (ap (λ (k : KfsState). k.keys) stays) (ap (λ (k : KfsState). k.pages) stays) files
-      (caused_counts (run_in k0).machine f (run_in k1).machine awake (alone_caused (run_in k0).machine f (run_in k1).machine unread.1)) (λ none. absurd (cc))
+      failed old k0 k1 o o1 d is up call (Device f) reply d1 reply_is down (ap (λ (k : KfsState). k.charge) stays) (ap (λ (k : KfsState). k.chunks) stays) (ap (λ (k : KfsState). k.keys) stays) (ap (λ (k : KfsState). k.pages) stays) files
+      (caused_counts (run_in k0).machine f (run_in k1).machine awake (alone_caused (run_in k0).machine f (run_in k1).machine unread.1))
       (rename_unread b from to up (record b { run = run_in k1; down = Some (cause_of f) }) f refl refl unread)
   rename_failed (Device f) reply d1 (stays, files, inr (move, judged, fell)) reply_is down =
-      failed old k0 k1 o o1 d is up awake call (Device f) reply d1 reply_is down (ap (λ (k : KfsState). k.charge) stays) (ap (λ (k : KfsState). k.chunks) stays) (ap (λ (k : KfsState). k.keys) stays) (ap (λ (k : KfsState). k.pages) stays) files
-      (caused_counts (run_in k0).machine f (run_in k1).machine awake (rename_caused (run_in k0) move (open_now o) f (run_in k1).machine fell)) (λ none. absurd (cc))
+      failed old k0 k1 o o1 d is up call (Device f) reply d1 reply_is down (ap (λ (k : KfsState). k.charge) stays) (ap (λ (k : KfsState). k.chunks) stays) (ap (λ (k : KfsState). k.keys) stays) (ap (λ (k : KfsState). k.pages) stays) files
+      (caused_counts (run_in k0).machine f (run_in k1).machine awake (rename_caused (run_in k0) move (open_now o) f (run_in k1).machine fell))
       (rename_falls b from to up move judged (low_count old k0 o d is age) (record b { run = run_in k1; down = Some (cause_of f) }) f refl refl fell)

@@ -32,11 +32,12 @@ use Rattle.kfs_posix.specs.Renaming.{rename_by, without_replaced}
 use Rattle.kfs_posix.specs.Book.{Book, limits_of, cause_of}
 use Rattle.kfs_posix.specs.Showing.{ShowsLive, GoesOn}
 use Rattle.kfs_posix.proofs.Held.{world_in}
-use Rattle.kfs_posix.proofs.Going.{spare, spare_free, idle_goes, turn_goes}
+use Rattle.kfs_posix.proofs.Going.{spare, spare_free, idle_goes, turn_goes, Refuses}
 use Rattle.kfs_posix.proofs.Calls.{stands_of, any_cause}
 use Rattle.kfs_posix.proofs.Planned.{Planned, world_shown, planned_goes, planned_falls, early_falls, unread_at, change_caused}
 use Rattle.kfs_posix.proofs.Unnaming.{forgets, forgets_holds, keeps_holds}
 use Rattle.kfs_posix.proofs.UnnameGoes.{ok_bind, err_bind, listed, reach}
+use Rattle.kfs_core.specs.declared.fault.CoreFault.TheVariants.{Device}
 
 -- which description has which node doesn't change
 replaced_desk : (o : Opens) (n : Option ℕ) → desk_of (without_replaced o n) ≡ desk_of o
@@ -159,7 +160,7 @@ module _ (old : Book) (from to : List ℕ) (up : old.down ≡ None) where
       rename_goes mid does = planned_goes old (with_moved mid move) (moved_same old.run move (open_now old.files) mid does) call files n c p count up (planned mid does)
 
       pub rename_falls : (new : Book) (fault : DeviceFault) → new.down ≡ Some (cause_of fault) → limits_of new ≡ limits_of old → MoveFault old.run move (open_now old.files) fault new.run.machine
-          → GoesOn old (lines.Call call) (answers.Reply (replies.Down (cause_of fault))) new
+          → Refuses old call (Device fault) new
       rename_falls new fault down limits (inl h) = early_falls old new call (3 + chunks_replaced move.replaced (open_now old.files)) fault up down limits (λ live sh cause. any_cause live.world call refl refl refl cause) (λ live sh.
           let it = ways live sh in
           let l = move_light old.run sh.light.ready (limits_of old) live.world (world_shown old live sh) (reach old from live sh) sh.room old.charge old.chunks sh.charged sh.chunked it.2.0 it.2.1 move it.2.2 (open_now old.files) in
@@ -167,5 +168,5 @@ module _ (old : Book) (from to : List ℕ) (up : old.down ≡ None) where
       rename_falls new fault down limits (inr (mid, does, h)) =
           planned_falls old (with_moved mid move) (moved_same old.run move (open_now old.files) mid does) call files n c p count up (planned mid does) new fault down limits (λ live sh cause. any_cause live.world call refl refl refl cause) h
 
-  pub rename_unread : (new : Book) (fault : DeviceFault) → new.down ≡ Some (cause_of fault) → limits_of new ≡ limits_of old → GetFault old.run fault new.run.machine → GoesOn old (lines.Call call) (answers.Reply (replies.Down (cause_of fault))) new
+  pub rename_unread : (new : Book) (fault : DeviceFault) → new.down ≡ Some (cause_of fault) → limits_of new ≡ limits_of old → GetFault old.run fault new.run.machine → Refuses old call (Device fault) new
   rename_unread new fault down limits h = unread_at old new call fault up down limits (λ live sh cause. any_cause live.world call refl refl refl cause) h

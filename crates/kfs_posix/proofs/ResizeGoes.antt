@@ -11,7 +11,6 @@ use Rattle.kfs_objects.proofs.KeyLaws.{length_be64}
 use Rattle.kfs_path.specs.declared.call.Call.{Call}
 use Rattle.kfs_path.specs.declared.call.Cause.{Cause}
 use Rattle.kfs_path.specs.declared.call.Reply.{Reply}
-use Rattle.kfs_path.specs.declared.call.Reply.TheVariants as replies
 use Rattle.kfs_model.specs.declared.Node.TheVariants.{File}
 use Rattle.kfs_model.specs.declared.Line.TheVariants as lines
 use Rattle.kfs_model.specs.declared.Answer.TheVariants as answers
@@ -34,11 +33,12 @@ use Rattle.kfs_core.proofs.Weights.{resizing_is, resizing_stays}
 use Rattle.kfs_posix.specs.Opens.{Opens, desk_of}
 use Rattle.kfs_posix.specs.Holding.{Holds}
 use Rattle.kfs_posix.specs.Book.{Book, limits_of, cause_of}
-use Rattle.kfs_posix.specs.Showing.{ShowsLive, IsSaved, GoesOn}
+use Rattle.kfs_posix.specs.Showing.{ShowsLive, IsWhole, GoesOn}
 use Rattle.kfs_posix.proofs.Changing.{IsPut, change_shown, sees, to_save}
-use Rattle.kfs_posix.proofs.Going.{spare, as_before, as_after, change_goes_at, turn_goes, fall_goes}
+use Rattle.kfs_posix.proofs.Going.{spare, as_before, as_after, change_goes_at, turn_goes, fall_goes, Refuses}
 use Rattle.kfs_posix.proofs.Calls.{room_for}
 use Rattle.kfs_posix.proofs.Planned.{world_shown, changed_same, changed_bounds, caused_from, change_caused, fallen_from, early_falls}
+use Rattle.kfs_core.specs.declared.fault.CoreFault.TheVariants.{Device}
 
 -- what the call does to the tree that is shown: the file n, of so many bytes, gets a length; d is the number of the description that the call makes
 pub record Lengthens (old : Book) (n was size : ℕ) (call : Call) (reply : Reply) (files : Opens) (d : ℕ) (live : Live) : Type 0 where
@@ -170,7 +170,7 @@ module _ (old : Book) (n was size : ℕ) (call : Call) (reply : Reply) (files : 
     -- a fault in it
     pub length_falls : (new : Book) (fault : DeviceFault) → new.down ≡ Some (cause_of fault) → limits_of new ≡ limits_of old → ((u : World) (cause : Cause) → can_fail u call cause ≡ true)
         → ((live : Live) → ShowsLive old live → Lengthens old n was size call reply files (spare old) live) → ResizeFault old.run n was size fault new.run.machine
-        → GoesOn old (lines.Call call) (answers.Reply (replies.Down (cause_of fault))) new
+        → Refuses old call (Device fault) new
     length_falls new fault down limits can at (inl h) = early_falls old new call (keys_cut was size) fault up down limits (λ live sh cause. can live.world cause)
         (λ live sh. let it = at live sh in let k = few_cut was size (let h = sh.tree.lengths n it.bytes it.file in let e = it.was_is in omega arith) in omega arith) h
     length_falls new fault down limits can at (inr (put, puts, inl h)) = fall_goes old new call fault up down limits (λ live sh.
@@ -212,7 +212,7 @@ module _ (old : Book) (n was size : ℕ) (call : Call) (reply : Reply) (files : 
             fallen = fallen_from old.run m fault (seen (with_super m put.next)) new.run.machine only y.1.cause y.1.stable y.1.bounds;
             stood = as_after w (ap (weight live.world call) it.step_is ∙ weighs put puts (spare old) live sh it)
                 (ap (λ (a : After). is_boundary live.since call a.reply (Some w)) it.step_is ∙ (λ i. is_full (sym sh.changes i + 1) (sym sh.weight i + w)) ∙ (λ i. is_full (sym is.since i + 1) (sym is.weight i + w)) ∙ y.0)
-                (subst (λ (t : Tree). IsSaved (limits_of old) (seen (with_super m put.next)) t (live.past.count + 1)) (ap (λ (a : After). a.world.tree) (sym it.step_is)) saved);
+                (subst (λ (t : Tree). IsWhole (limits_of old) (seen (with_super m put.next)) t (live.past.count + 1)) (ap (λ (a : After). a.world.tree) (sym it.step_is)) saved);
             can = λ cause e. can live.world cause;
           }
         ])

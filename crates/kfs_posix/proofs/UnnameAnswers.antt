@@ -1,5 +1,5 @@
 -- A call of a session that takes a name away, by what it did.
-use Rattle.std.proofs.Common.{◌≡◌, ◌<◌, ◌-◌, ◌^◌, inl, inr, true, refl, sym, ◌∙◌, ap, subst, Option, Some, None, Result}
+use Rattle.std.proofs.Common.{◌≡◌, ◌<◌, ◌-◌, ◌^◌, inl, inr, true, refl, sym, ap, subst, Option, Some, None, Result}
 use Rattle.kv_device.specs.Machine.{Machine}
 use Rattle.kfs_path.specs.declared.call.Call.{Call}
 use Rattle.kfs_path.specs.declared.call.Cause.{Cause}
@@ -19,9 +19,10 @@ use Rattle.kfs_posix.specs.Book.{Book, SessionState, state_of, book_of, running_
 use Rattle.kfs_posix.specs.Answering.{refusal, down_after}
 use Rattle.kfs_posix.specs.Showing.{GoesOn}
 use Rattle.kfs_posix.proofs.Fault.{caused_counts, alone_caused}
-use Rattle.kfs_posix.proofs.Events.{Happens, IsPlain, plain, answered, failed, low_count}
+use Rattle.kfs_posix.proofs.Events.{Happens, IsPlain, plain, answered, failed, low_count, Fails}
 use Rattle.kfs_posix.proofs.Planned.{changed_same}
 use Rattle.kfs_posix.proofs.UnnameGoes.{IsRemoval, unnames_same, unname_weight, unname_goes, unname_refused, unname_unread, unname_falls, unname_caused}
+use Rattle.kfs_posix.proofs.Going.{errs}
 
 pub done_plain : IsPlain replies.Done
 done_plain = plain (λ old new h. h) (λ old new a b. (a, b))
@@ -35,22 +36,22 @@ module _ (old : SessionState) (k0 k1 : KfsState) (o o1 : Opens) (d : Option Caus
   unname_answered h =
       let run = h.effect.change in
       let same = unnames_same (run_in k0) h.leaf (open_now o h.leaf.node) h.effect.mid h.effect.unnames in
-      answered old k0 k1 o o1 d is up awake call replies.Done done_plain _ _ _ (without_name o h.leaf.node)
+      answered old k0 k1 o o1 d is up call replies.Done done_plain _ _ _ (without_name o h.leaf.node)
       (changed_same (run_in k0) h.effect.mid same (unname_weight b call judge removal (low_count old k0 o d is age) up h.leaf) h.effect.mid.next)
       run (ap (λ (k : KfsState). k.charge) h.frees) (ap (λ (k : KfsState). k.chunks) h.frees) (ap (λ (k : KfsState). k.keys) h.frees) (ap (λ (k : KfsState). k.pages) h.frees) h.files_are
       (unname_goes b call judge removal (low_count old k0 o d is age) up h.leaf h.judge h.effect.mid h.effect.unnames)
 
-  pub unname_failed : (fault : CoreFault) (reply : Reply) (d1 : Option Cause) → UnnameFails k0 o judge fault k1 o1 → reply ≡ refusal fault → d1 ≡ down_after d fault → Happens old call reply k1 o1 d1
+  pub unname_failed : (fault : CoreFault) (reply : Reply) (d1 : Option Cause) → UnnameFails k0 o judge fault k1 o1 → reply ≡ refusal fault → d1 ≡ down_after d fault → Fails old call fault reply k1 o1 d1
   unname_failed (No e) reply d1 h reply_is down =
       let machine = ap (λ (k : KfsState). (run_in k).machine) h.1 in
-      failed old k0 k1 o o1 d is up awake call (No e) reply d1 reply_is down (ap (λ (k : KfsState). k.charge) h.1) (ap (λ (k : KfsState). k.chunks) h.1) (ap (λ (k : KfsState). k.keys) h.1) (ap (λ (k : KfsState). k.pages) h.1) h.2
-      (ap (λ (m : Machine). m.cuts) machine, ap (λ (m : Machine). m.faults) machine) (λ none. ap (λ (m : Machine). m.up) machine ∙ awake)
-      (subst (λ (r : Run). GoesOn b (lines.Call call) (answers.Reply (replies.Err e)) (record b { run = r })) (sym (ap run_in h.1)) (unname_refused b call judge removal (low_count old k0 o d is age) up e h.0))
+      failed old k0 k1 o o1 d is up call (No e) reply d1 reply_is down (ap (λ (k : KfsState). k.charge) h.1) (ap (λ (k : KfsState). k.chunks) h.1) (ap (λ (k : KfsState). k.keys) h.1) (ap (λ (k : KfsState). k.pages) h.1) h.2
+      (ap (λ (m : Machine). m.cuts) machine, ap (λ (m : Machine). m.faults) machine)
+      (errs b (record b { run = run_in k1 }) call e (subst (λ (r : Run). GoesOn b (lines.Call call) (answers.Reply (replies.Err e)) (record b { run = r })) (sym (ap run_in h.1)) (unname_refused b call judge removal (low_count old k0 o d is age) up e h.0)))
   unname_failed (Device f) reply d1 (stays, files, inl unread) reply_is down =
-      failed old k0 k1 o o1 d is up awake call (Device f) reply d1 reply_is down (ap (λ (k : KfsState). k.charge) stays) (ap (λ (k : KfsState). k.chunks) stays) (ap (λ (k : KfsState). k.keys) stays) (ap (λ (k : KfsState). k.pages) stays) files
-      (caused_counts (run_in k0).machine f (run_in k1).machine awake (alone_caused (run_in k0).machine f (run_in k1).machine unread.1)) (λ none. absurd (cc))
+      failed old k0 k1 o o1 d is up call (Device f) reply d1 reply_is down (ap (λ (k : KfsState). k.charge) stays) (ap (λ (k : KfsState). k.chunks) stays) (ap (λ (k : KfsState). k.keys) stays) (ap (λ (k : KfsState). k.pages) stays) files
+      (caused_counts (run_in k0).machine f (run_in k1).machine awake (alone_caused (run_in k0).machine f (run_in k1).machine unread.1))
       (unname_unread b call judge removal (low_count old k0 o d is age) up (record b { run = run_in k1; down = Some (cause_of f) }) f refl refl unread)
   unname_failed (Device f) reply d1 (stays, files, inr (leaf, judged, fell)) reply_is down =
-      failed old k0 k1 o o1 d is up awake call (Device f) reply d1 reply_is down (ap (λ (k : KfsState). k.charge) stays) (ap (λ (k : KfsState). k.chunks) stays) (ap (λ (k : KfsState). k.keys) stays) (ap (λ (k : KfsState). k.pages) stays) files
-      (caused_counts (run_in k0).machine f (run_in k1).machine awake (unname_caused (run_in k0) leaf (open_now o leaf.node) f (run_in k1).machine fell)) (λ none. absurd (cc))
+      failed old k0 k1 o o1 d is up call (Device f) reply d1 reply_is down (ap (λ (k : KfsState). k.charge) stays) (ap (λ (k : KfsState). k.chunks) stays) (ap (λ (k : KfsState). k.keys) stays) (ap (λ (k : KfsState). k.pages) stays) files
+      (caused_counts (run_in k0).machine f (run_in k1).machine awake (unname_caused (run_in k0) leaf (open_now o leaf.node) f (run_in k1).machine fell))
       (unname_falls b call judge removal (low_count old k0 o d is age) up (record b { run = run_in k1; down = Some (cause_of f) }) leaf f judged refl refl fell)

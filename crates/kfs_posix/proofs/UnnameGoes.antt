@@ -31,10 +31,11 @@ use Rattle.kfs_posix.specs.Removing.{open_now, unlink_by, rmdir_by}
 use Rattle.kfs_posix.specs.Book.{Book, limits_of, cause_of}
 use Rattle.kfs_posix.specs.Showing.{ShowsLive, GoesOn}
 use Rattle.kfs_posix.proofs.Held.{world_in}
-use Rattle.kfs_posix.proofs.Going.{spare, idle_goes}
+use Rattle.kfs_posix.proofs.Going.{spare, idle_goes, Refuses}
 use Rattle.kfs_posix.proofs.Calls.{stands_of, any_cause}
 use Rattle.kfs_posix.proofs.Planned.{Planned, world_shown, planned_goes, planned_falls, early_falls, unread_at, change_caused}
 use Rattle.kfs_posix.proofs.Unnaming.{listed_same, forgets, leaf_holds}
+use Rattle.kfs_core.specs.declared.fault.CoreFault.TheVariants.{Device}
 
 -- a call that takes away the entry that it judged
 pub record IsRemoval (old : Book) (call : Call) (judge : Result Leaf Errno) : Type 0 where
@@ -84,11 +85,11 @@ module _ (old : Book) (call : Call) (judge : Result Leaf Errno) (removal : IsRem
   pub unname_refused : (e : Errno) → judge ≡ Err e → GoesOn old (lines.Call call) (answers.Reply (replies.Err e)) old
   unname_refused e is = idle_goes old call (replies.Err e) up (removal.weightless e) (removal.quiet e) (λ live sh. removal.refused live sh e is (spare old))
 
-  pub unname_unread : (new : Book) (fault : DeviceFault) → new.down ≡ Some (cause_of fault) → limits_of new ≡ limits_of old → GetFault old.run fault new.run.machine → GoesOn old (lines.Call call) (answers.Reply (replies.Down (cause_of fault))) new
+  pub unname_unread : (new : Book) (fault : DeviceFault) → new.down ≡ Some (cause_of fault) → limits_of new ≡ limits_of old → GetFault old.run fault new.run.machine → Refuses old call (Device fault) new
   unname_unread new fault down limits h = unread_at old new call fault up down limits (λ live sh cause. removal.can live.world cause) h
 
   pub unname_falls : (new : Book) (leaf : Leaf) (fault : DeviceFault) → judge ≡ Ok leaf → new.down ≡ Some (cause_of fault) → limits_of new ≡ limits_of old → UnlinkFault old.run leaf (open_still leaf) fault new.run.machine
-      → GoesOn old (lines.Call call) (answers.Reply (replies.Down (cause_of fault))) new
+      → Refuses old call (Device fault) new
   unname_falls new leaf fault is down limits (inl h) = early_falls old new call (2 + chunks_gone leaf (open_still leaf)) fault up down limits (λ live sh cause. removal.can live.world cause) (λ live sh.
       let at = removal.leaf live sh leaf is in
       let l = leaf_light old.run sh.light.ready (limits_of old) live.world (world_shown old live sh) (let h = sh.low in omega arith) sh.room old.charge old.chunks sh.charged sh.chunked at.0 leaf at.1 (open_still leaf) in

@@ -15,6 +15,7 @@ use Rattle.kfs_step_laws.specs.Plain.{PlainAnswer}
 use Rattle.kfs_posix.specs.Answering.{Counts}
 use Rattle.kfs_posix.specs.Book.{limits_of}
 use Rattle.kfs_posix.specs.Unplanned.{IsUnplanned, CallsFailUnplannedByMemoryAlone}
+use Rattle.kfs_posix.proofs.Shown.{fits}
 
 -- a count at its bound doesn't rise
 at_bound : (old new most : ℕ) → most ≡ old → most < 2 ^ 63 → new ≤ most → new ≡ one_more old → ⊥
@@ -39,5 +40,5 @@ plain_at k s t (Down past may) call reply uncut unfailed h = (Down past may, (ap
 
 pub calls_plain : CallsFailUnplannedByMemoryAlone
 calls_plain old new call reply goes counts none s shows =
-    let event = (goes.each s shows).1 in
-    plain_at (limits_of old) s (goes.each s shows).0 s.now call reply (no_cut old.run.machine new.run.machine reply none shows.few_cuts counts) (no_fault old.run.machine new.run.machine reply none shows.few_faults counts) event
+    let done = goes.each s (fits old s shows) in
+    plain_at (limits_of old) s done.0 s.now call reply (no_cut old.run.machine new.run.machine reply none shows.few_cuts counts) (no_fault old.run.machine new.run.machine reply none shows.few_faults counts) done.1

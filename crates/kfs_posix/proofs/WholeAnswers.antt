@@ -29,10 +29,10 @@ use Rattle.kfs_posix.specs.Opens.{Opens}
 use Rattle.kfs_posix.specs.Book.{Book, SessionState, state_of, book_of, limits_of, cause_of}
 use Rattle.kfs_posix.specs.Answering.{Counts, refusal, down_after}
 use Rattle.kfs_posix.specs.Showing.{ShowsLive, GoesOn}
-use Rattle.kfs_posix.proofs.Going.{as_before, idle_goes, fall_goes}
+use Rattle.kfs_posix.proofs.Going.{as_before, idle_goes, fall_goes, Refuses}
 use Rattle.kfs_posix.proofs.Calls.{stands_of, read_falls, any_cause}
-use Rattle.kfs_posix.proofs.Fault.{read_counts, read_awake, caused_counts, alone_caused}
-use Rattle.kfs_posix.proofs.Events.{Happens, IsPlain, plain, same_machine, answered, failed}
+use Rattle.kfs_posix.proofs.Fault.{read_counts, caused_counts, alone_caused}
+use Rattle.kfs_posix.proofs.Events.{Happens, IsPlain, plain, same_machine, answered, failed, Fails}
 
 -- ---- the tree
 
@@ -71,7 +71,7 @@ work_fallen m Failed new h = record { cause = (h.0, ap (λ (x : Machine). x.cuts
 work_fallen m Memory new h = record { cause = (ap (λ (x : Machine). x.cuts) h, ap (λ (x : Machine). x.faults) h); stable = ap (λ (x : Machine). x.stable) h; bounds = bounds_along m new _ h (record { most_cuts = refl; most_faults = refl; room_keys = refl; room_pages = refl }) }
 
 work_falls : (old new : Book) (operations : ℕ) (fault : DeviceFault) → old.down ≡ None → new.down ≡ Some (cause_of fault) → limits_of new ≡ limits_of old → WorkFault old.run.machine fault new.run.machine
-    → GoesOn old (lines.Call (calls.Work operations)) (answers.Reply (replies.Down (cause_of fault))) new
+    → Refuses old (calls.Work operations) (Device fault) new
 work_falls old new operations fault up down limits h = fall_goes old new (calls.Work operations) fault up down limits (λ live sh. record {
   stands = old.run.machine.stable;
   fallen = work_fallen old.run.machine fault new.run.machine (subst (λ o. IsFault o Falls old.run.machine fault new.run.machine) (λ i. cond (not (sh.light.ready.up i)) (Some Off) None) h);
@@ -88,24 +88,23 @@ module _ (old : SessionState) (k0 k1 : KfsState) (o : Opens) (d : Option Cause) 
   -- answered, with all as it was
   idle : (call : Call) (reply : Reply) → IsPlain reply → run_in k1 ≡ run_in k0 → GoesOn b (lines.Call call) (answers.Reply reply) b → Happens old call reply k1 o d
   idle call reply is_plain leaves goes =
-      answered old k0 k1 o o d is up awake call reply is_plain (run_in k0) k0.charge k0.chunks o (same_machine (run_in k0)) leaves
+      answered old k0 k1 o o d is up call reply is_plain (run_in k0) k0.charge k0.chunks o (same_machine (run_in k0)) leaves
       (ap (λ (k : KfsState). k.charge) rest) (ap (λ (k : KfsState). k.chunks) rest) (ap (λ (k : KfsState). k.keys) rest) (ap (λ (k : KfsState). k.pages) rest) refl goes
 
   -- down
   fails : (call : Call) (fault : CoreFault) (reply : Reply) (d1 : Option Cause) → reply ≡ refusal fault → d1 ≡ down_after d fault
-      → Counts (run_in k0).machine (refusal fault) (run_in k1).machine → (down_after d fault ≡ None → (run_in k1).machine.up ≡ true)
-      → GoesOn b (lines.Call call) (answers.Reply (refusal fault)) (record b { run = run_in k1; down = down_after d fault }) → Happens old call reply k1 o d1
-  fails call fault reply d1 reply_is down counts still goes =
-      failed old k0 k1 o o d is up awake call fault reply d1 reply_is down
-      (ap (λ (k : KfsState). k.charge) rest) (ap (λ (k : KfsState). k.chunks) rest) (ap (λ (k : KfsState). k.keys) rest) (ap (λ (k : KfsState). k.pages) rest) refl counts still goes
+      → Counts (run_in k0).machine (refusal fault) (run_in k1).machine → Refuses b call fault (record b { run = run_in k1; down = down_after d fault }) → Fails old call fault reply k1 o d1
+  fails call fault reply d1 reply_is down counts goes =
+      failed old k0 k1 o o d is up call fault reply d1 reply_is down
+      (ap (λ (k : KfsState). k.charge) rest) (ap (λ (k : KfsState). k.chunks) rest) (ap (λ (k : KfsState). k.keys) rest) (ap (λ (k : KfsState). k.pages) rest) refl counts goes
 
   pub tree_answered : (items : List TreeItem) → k0.keys ≤ 68544 → ListsAll (seen (run_in k0)) items → run_in k1 ≡ run_in k0 → Happens old calls.Tree (replies.Tree items) k1 o d
   tree_answered items small lists leaves = idle calls.Tree (replies.Tree items) (plain (λ old new h. h) (λ old new a b. (a, b))) leaves (tree_goes b items up (omega arith) lists)
 
-  pub tree_failed : (fault : CoreFault) (reply : Reply) (d1 : Option Cause) → IsOfDevice fault → LeavesAtFault (run_in k0) fault (run_in k1) → reply ≡ refusal fault → d1 ≡ down_after d fault → Happens old calls.Tree reply k1 o d1
-  tree_failed fault reply d1 own leaves reply_is down = fails calls.Tree fault reply d1 reply_is down (read_counts (run_in k0) (run_in k1) fault awake leaves) (read_awake (run_in k0) (run_in k1) d fault awake leaves) (by fault own leaves)
+  pub tree_failed : (fault : CoreFault) (reply : Reply) (d1 : Option Cause) → IsOfDevice fault → LeavesAtFault (run_in k0) fault (run_in k1) → reply ≡ refusal fault → d1 ≡ down_after d fault → Fails old calls.Tree fault reply k1 o d1
+  tree_failed fault reply d1 own leaves reply_is down = fails calls.Tree fault reply d1 reply_is down (read_counts (run_in k0) (run_in k1) fault awake leaves) (by fault own leaves)
     where
-      by : (fault : CoreFault) → IsOfDevice fault → LeavesAtFault (run_in k0) fault (run_in k1) → GoesOn b (lines.Call calls.Tree) (answers.Reply (refusal fault)) (record b { run = run_in k1; down = down_after d fault })
+      by : (fault : CoreFault) → IsOfDevice fault → LeavesAtFault (run_in k0) fault (run_in k1) → Refuses b calls.Tree fault (record b { run = run_in k1; down = down_after d fault })
       by (No e) own leaves = absurd own
       by (Device f) own leaves = read_falls b (record b { run = run_in k1; down = Some (cause_of f) }) calls.Tree f (λ w. refl) (λ w. refl) up refl refl leaves
 
@@ -113,17 +112,13 @@ module _ (old : SessionState) (k0 k1 : KfsState) (o : Opens) (d : Option Cause) 
     pub work_answered : run_in k1 ≡ run_in k0 → Happens old (calls.Work operations) replies.Done k1 o d
     work_answered leaves = idle (calls.Work operations) replies.Done (plain (λ old new h. h) (λ old new a b. (a, b))) leaves (work_goes b operations up)
 
-    pub work_failed : (fault : CoreFault) (reply : Reply) (d1 : Option Cause) → WorkFails (run_in k0) (run_in k1) fault → reply ≡ refusal fault → d1 ≡ down_after d fault → Happens old (calls.Work operations) reply k1 o d1
-    work_failed fault reply d1 h reply_is down = fails (calls.Work operations) fault reply d1 reply_is down (counts fault h) (still fault h) (by fault h)
+    pub work_failed : (fault : CoreFault) (reply : Reply) (d1 : Option Cause) → WorkFails (run_in k0) (run_in k1) fault → reply ≡ refusal fault → d1 ≡ down_after d fault → Fails old (calls.Work operations) fault reply k1 o d1
+    work_failed fault reply d1 h reply_is down = fails (calls.Work operations) fault reply d1 reply_is down (counts fault h) (by fault h)
       where
         counts : (fault : CoreFault) → WorkFails (run_in k0) (run_in k1) fault → Counts (run_in k0).machine (refusal fault) (run_in k1).machine
         counts (No e) h = absurd h
         counts (Device f) h = caused_counts (run_in k0).machine f (run_in k1).machine awake (alone_caused (run_in k0).machine f (run_in k1).machine h.1)
 
-        still : (fault : CoreFault) → WorkFails (run_in k0) (run_in k1) fault → down_after d fault ≡ None → (run_in k1).machine.up ≡ true
-        still (No e) h none = absurd h
-        still (Device f) h none = absurd (cc)
-
-        by : (fault : CoreFault) → WorkFails (run_in k0) (run_in k1) fault → GoesOn b (lines.Call (calls.Work operations)) (answers.Reply (refusal fault)) (record b { run = run_in k1; down = down_after d fault })
+        by : (fault : CoreFault) → WorkFails (run_in k0) (run_in k1) fault → Refuses b (calls.Work operations) fault (record b { run = run_in k1; down = down_after d fault })
         by (No e) h = absurd h
         by (Device f) h = work_falls b (record b { run = run_in k1; down = Some (cause_of f) }) operations f up refl refl h.0

@@ -27,11 +27,12 @@ use Rattle.kfs_posix.specs.Book.{Book, SessionState, state_of, book_of, running_
 use Rattle.kfs_posix.specs.Answering.{refusal, down_after}
 use Rattle.kfs_posix.specs.Showing.{ShowsLive, GoesOn}
 use Rattle.kfs_posix.proofs.Fault.{caused_counts, alone_caused}
-use Rattle.kfs_posix.proofs.Events.{Happens, same_machine, answered, failed, low_count}
+use Rattle.kfs_posix.proofs.Events.{Happens, same_machine, answered, failed, low_count, Fails}
 use Rattle.kfs_posix.proofs.OpenAnswers.{number_plain}
 use Rattle.kfs_posix.proofs.Calls.{any_cause, unread_falls}
 use Rattle.kfs_posix.proofs.WriteGoes.{Puts, put_goes, same_numbers, wrote_falls}
 use Rattle.kfs_posix.proofs.WriteEvents
+use Rattle.kfs_posix.proofs.Going.{errs}
 
 module _ (old : SessionState) (k0 k1 : KfsState) (o o1 : Opens) (d : Option Cause) (is : state_of k0 o d ≡ old) (up : d ≡ None) (awake : (run_in k0).machine.up ≡ true) (age : age_of (running_in old) < 2 ^ 63 - 2 ^ 40) where
   abbrev b : Book
@@ -40,13 +41,13 @@ module _ (old : SessionState) (k0 k1 : KfsState) (o o1 : Opens) (d : Option Caus
   -- all as it was
   unchanged : (call : Call) (n : ℕ) → Same k0 k1 → o1 ≡ o → GoesOn b (lines.Call call) (answers.Reply (replies.Number n)) b → Happens old call (replies.Number n) k1 o1 d
   unchanged call n same files goes =
-      answered old k0 k1 o o1 d is up awake call (replies.Number n) (number_plain n) (run_in k0) k0.charge k0.chunks o (same_machine (run_in k0)) (ap run_in same) (ap (λ (k : KfsState). k.charge) same) (ap (λ (k : KfsState). k.chunks) same) (ap (λ (k : KfsState). k.keys) same) (ap (λ (k : KfsState). k.pages) same) files goes
+      answered old k0 k1 o o1 d is up call (replies.Number n) (number_plain n) (run_in k0) k0.charge k0.chunks o (same_machine (run_in k0)) (ap run_in same) (ap (λ (k : KfsState). k.charge) same) (ap (λ (k : KfsState). k.chunks) same) (ap (λ (k : KfsState). k.keys) same) (ap (λ (k : KfsState). k.pages) same) files goes
 
-  refused : (call : Call) (e : Errno) (reply : Reply) (d1 : Option Cause) → reply ≡ refusal (No e) → d1 ≡ down_after d (No e) → Same k0 k1 → o1 ≡ o → GoesOn b (lines.Call call) (answers.Reply (replies.Err e)) b → Happens old call reply k1 o1 d1
+  refused : (call : Call) (e : Errno) (reply : Reply) (d1 : Option Cause) → reply ≡ refusal (No e) → d1 ≡ down_after d (No e) → Same k0 k1 → o1 ≡ o → GoesOn b (lines.Call call) (answers.Reply (replies.Err e)) b → Fails old call (No e) reply k1 o1 d1
   refused call e reply d1 reply_is down same files goes =
-      failed old k0 k1 o o1 d is up awake call (No e) reply d1 reply_is down (ap (λ (k : KfsState). k.charge) same) (ap (λ (k : KfsState). k.chunks) same) (ap (λ (k : KfsState). k.keys) same) (ap (λ (k : KfsState). k.pages) same) files
-      (ap (λ (k : KfsState). (run_in k).machine.cuts) same, ap (λ (k : KfsState). (run_in k).machine.faults) same) (λ none. ap (λ (k : KfsState). (run_in k).machine.up) same ∙ awake)
-      (subst (λ r. GoesOn b (lines.Call call) (answers.Reply (replies.Err e)) (record b { run = r })) (sym (ap run_in same)) goes)
+      failed old k0 k1 o o1 d is up call (No e) reply d1 reply_is down (ap (λ (k : KfsState). k.charge) same) (ap (λ (k : KfsState). k.chunks) same) (ap (λ (k : KfsState). k.keys) same) (ap (λ (k : KfsState). k.pages) same) files
+      (ap (λ (k : KfsState). (run_in k).machine.cuts) same, ap (λ (k : KfsState). (run_in k).machine.faults) same)
+      (errs b (record b { run = run_in k1 }) call e (subst (λ r. GoesOn b (lines.Call call) (answers.Reply (replies.Err e)) (record b { run = r })) (sym (ap run_in same)) goes))
 
   -- a call that writes
   module _ (call : Call) (can : (w : World) (cause : Cause) → can_fail w call cause ≡ true) (node size p count : ℕ) (given : List ℕ) (long : length given ≡ count) (files : Opens)
@@ -55,23 +56,23 @@ module _ (old : SessionState) (k0 k1 : KfsState) (o o1 : Opens) (d : Option Caus
     wrote (put, bytes, run_is) takes files_is =
         let more : chunks_for (grown size p count) - chunks_for size ≡ chunks_for (grown size p (length given)) - chunks_for size = ap (λ n. chunks_for (grown size p n) - chunks_for size) (sym long) in
         let few = low_count old k0 o d is age in
-        answered old k0 k1 o o1 d is up awake call (replies.Number count) (number_plain count)
+        answered old k0 k1 o o1 d is up call (replies.Number count) (number_plain count)
         (one_change (with_length put node (grown size p (length given))) (2 + spanned p (length given)) put.next)
         (k0.charge + (chunks_for (grown size p (length given)) - chunks_for size)) (k0.chunks + (chunks_for (grown size p (length given)) - chunks_for size)) files
         (same_numbers b node size p given call (replies.Number count) files few put bytes).0 run_is
         (ap (λ (k : KfsState). k.charge) takes ∙ ap (λ n. k0.charge + n) more) (ap (λ (k : KfsState). k.chunks) takes ∙ ap (λ n. k0.chunks + n) more) (ap (λ (k : KfsState). k.keys) takes) (ap (λ (k : KfsState). k.pages) takes) files_is
         (put_goes b node size p given call (replies.Number count) files few put bytes up puts)
 
-    fell : (f : DeviceFault) (reply : Reply) (d1 : Option Cause) → reply ≡ refusal (Device f) → d1 ≡ down_after d (Device f) → Stays k0 k1 → o1 ≡ o → WriteFault (run_in k0) node size p given f (run_in k1).machine → Happens old call reply k1 o1 d1
+    fell : (f : DeviceFault) (reply : Reply) (d1 : Option Cause) → reply ≡ refusal (Device f) → d1 ≡ down_after d (Device f) → Stays k0 k1 → o1 ≡ o → WriteFault (run_in k0) node size p given f (run_in k1).machine → Fails old call (Device f) reply k1 o1 d1
     fell f reply d1 reply_is down rest files_is h =
-        failed old k0 k1 o o1 d is up awake call (Device f) reply d1 reply_is down (ap (λ (k : KfsState). k.charge) rest) (ap (λ (k : KfsState). k.chunks) rest) (ap (λ (k : KfsState). k.keys) rest) (ap (λ (k : KfsState). k.pages) rest) files_is
-        (caused_counts (run_in k0).machine f (run_in k1).machine awake (write_caused (run_in k0) node size p given f (run_in k1).machine h)) (λ none. absurd (cc))
+        failed old k0 k1 o o1 d is up call (Device f) reply d1 reply_is down (ap (λ (k : KfsState). k.charge) rest) (ap (λ (k : KfsState). k.chunks) rest) (ap (λ (k : KfsState). k.keys) rest) (ap (λ (k : KfsState). k.pages) rest) files_is
+        (caused_counts (run_in k0).machine f (run_in k1).machine awake (write_caused (run_in k0) node size p given f (run_in k1).machine h))
         (wrote_falls b node size p given call (replies.Number count) files (low_count old k0 o d is age) (record b { run = run_in k1; down = Some (cause_of f) }) f up refl refl can puts h)
 
-  pub unread : (call : Call) → ((w : World) (cause : Cause) → can_fail w call cause ≡ true) → (f : DeviceFault) (reply : Reply) (d1 : Option Cause) → reply ≡ refusal (Device f) → d1 ≡ down_after d (Device f) → Stays k0 k1 → o1 ≡ o → GetFault (run_in k0) f (run_in k1).machine → Happens old call reply k1 o1 d1
+  pub unread : (call : Call) → ((w : World) (cause : Cause) → can_fail w call cause ≡ true) → (f : DeviceFault) (reply : Reply) (d1 : Option Cause) → reply ≡ refusal (Device f) → d1 ≡ down_after d (Device f) → Stays k0 k1 → o1 ≡ o → GetFault (run_in k0) f (run_in k1).machine → Fails old call (Device f) reply k1 o1 d1
   unread call can f reply d1 reply_is down rest files_is h =
-      failed old k0 k1 o o1 d is up awake call (Device f) reply d1 reply_is down (ap (λ (k : KfsState). k.charge) rest) (ap (λ (k : KfsState). k.chunks) rest) (ap (λ (k : KfsState). k.keys) rest) (ap (λ (k : KfsState). k.pages) rest) files_is
-      (caused_counts (run_in k0).machine f (run_in k1).machine awake (alone_caused (run_in k0).machine f (run_in k1).machine h.1)) (λ none. absurd (cc))
+      failed old k0 k1 o o1 d is up call (Device f) reply d1 reply_is down (ap (λ (k : KfsState). k.charge) rest) (ap (λ (k : KfsState). k.chunks) rest) (ap (λ (k : KfsState). k.keys) rest) (ap (λ (k : KfsState). k.pages) rest) files_is
+      (caused_counts (run_in k0).machine f (run_in k1).machine awake (alone_caused (run_in k0).machine f (run_in k1).machine h.1))
       (unread_falls b (record b { run = run_in k1; down = Some (cause_of f) }) call f can up refl refl h)
 
   -- ---- write
@@ -99,7 +100,7 @@ module _ (old : SessionState) (k0 k1 : KfsState) (o o1 : Opens) (d : Option Caus
         (subst (λ x. Takes k0 (chunks_for (grown size p x) - chunks_for size) k1) n_is takes)
         (files ∙ (λ i. moved_behind (mid_is i) it.0 p n) ∙ ap (λ x. moved_behind (relengthed o node (max it.1.length (behind p x))) it.0 p x) n_is))
 
-    pub write_failed : (fault : CoreFault) (reply : Reply) (d1 : Option Cause) → FdWriteDoes k0 o (writable_in o fd) given (Err fault) k1 o1 → reply ≡ refusal fault → d1 ≡ down_after d fault → Happens old call reply k1 o1 d1
+    pub write_failed : (fault : CoreFault) (reply : Reply) (d1 : Option Cause) → FdWriteDoes k0 o (writable_in o fd) given (Err fault) k1 o1 → reply ≡ refusal fault → d1 ≡ down_after d fault → Fails old call fault reply k1 o1 d1
     write_failed (No e) reply d1 (inl (judged, same, files)) reply_is down = refused call e reply d1 reply_is down same files (WriteEvents.write_refused b fd given e up judged)
     write_failed (No e) reply d1 (inr (it, judged, (files, inl (long, e_is, same)))) reply_is down =
         refused call e reply d1 reply_is down same files (subst (λ x. GoesOn b (lines.Call call) (answers.Reply (replies.Err x)) b) (sym e_is) (WriteEvents.write_long b fd given it up judged long))
@@ -138,7 +139,7 @@ module _ (old : SessionState) (k0 k1 : KfsState) (o o1 : Opens) (d : Option Caus
           (subst (λ x. Takes k0 (chunks_for (grown size p x) - chunks_for size) k1) n_is takes)
           (files ∙ ap (λ x. relengthed o node (max it.1.length (behind p x))) n_is))
 
-      pub pwrite_failed : (fault : CoreFault) (reply : Reply) (d1 : Option Cause) → PwriteDoes k0 o (writable_at o fd offset) (natural offset) given (Err fault) k1 o1 → reply ≡ refusal fault → d1 ≡ down_after d fault → Happens old pcall reply k1 o1 d1
+      pub pwrite_failed : (fault : CoreFault) (reply : Reply) (d1 : Option Cause) → PwriteDoes k0 o (writable_at o fd offset) (natural offset) given (Err fault) k1 o1 → reply ≡ refusal fault → d1 ≡ down_after d fault → Fails old pcall fault reply k1 o1 d1
       pwrite_failed (No e) reply d1 (inl (judged, same, files)) reply_is down = refused pcall e reply d1 reply_is down same files (WriteEvents.pwrite_refused b fd given offset e up judged)
       pwrite_failed (No e) reply d1 (inr (it, judged, (files, inl (long, e_is, same)))) reply_is down =
           refused pcall e reply d1 reply_is down same files (subst (λ x. GoesOn b (lines.Call pcall) (answers.Reply (replies.Err x)) b) (sym e_is) (WriteEvents.pwrite_long b fd given offset it judged up long))
@@ -155,6 +156,7 @@ module _ (old : SessionState) (k0 k1 : KfsState) (o o1 : Opens) (d : Option Caus
 
 -- no memory for the bytes
 pub no_memory : (old : SessionState) (k0 : KfsState) (o : Opens) (d : Option Cause) → state_of k0 o d ≡ old → d ≡ None → (run_in k0).machine.up ≡ true → age_of (running_in old) < 2 ^ 63 - 2 ^ 40 → (call : Call) → ((w : World) (cause : Cause) → can_fail w call cause ≡ true)
-    → (fault : CoreFault) (reply : Reply) (d1 : Option Cause) → fault ≡ Device Memory → reply ≡ refusal fault → d1 ≡ down_after d fault → Happens old call reply k0 o d1
+    → (fault : CoreFault) (reply : Reply) (d1 : Option Cause) → fault ≡ Device Memory → reply ≡ refusal fault → d1 ≡ down_after d fault → Fails old call fault reply k0 o d1
 no_memory old k0 o d is up awake age call can fault reply d1 memory reply_is down =
-    unread old k0 k0 o o d is up awake age call can Memory reply d1 (reply_is ∙ ap refusal memory) (down ∙ ap (down_after d) memory) refl refl (inl (refl, refl), (refl, refl))
+    subst (λ f. Fails old call f reply k0 o d1) (sym memory)
+    (unread old k0 k0 o o d is up awake age call can Memory reply d1 (reply_is ∙ ap refusal memory) (down ∙ ap (down_after d) memory) refl refl (inl (refl, refl), (refl, refl)))

@@ -4,7 +4,6 @@ use Rattle.kv_device.specs.declared.fault.DeviceFault.{DeviceFault}
 use Rattle.kfs_path.specs.declared.call.Call.{Call}
 use Rattle.kfs_path.specs.declared.call.Cause.{Cause}
 use Rattle.kfs_path.specs.declared.call.Reply.{Reply}
-use Rattle.kfs_path.specs.declared.call.Reply.TheVariants as replies
 use Rattle.kfs_model.specs.declared.Node.TheVariants.{File}
 use Rattle.kfs_model.specs.declared.Line.TheVariants as lines
 use Rattle.kfs_model.specs.declared.Answer.TheVariants as answers
@@ -20,11 +19,12 @@ use Rattle.kfs_core.proofs.FileFaults.{write_falls}
 use Rattle.kfs_posix.specs.Opens.{Opens, desk_of}
 use Rattle.kfs_posix.specs.Holding.{Holds}
 use Rattle.kfs_posix.specs.Book.{Book, limits_of, cause_of}
-use Rattle.kfs_posix.specs.Showing.{ShowsLive, IsSaved, GoesOn}
+use Rattle.kfs_posix.specs.Showing.{ShowsLive, IsWhole, GoesOn}
 use Rattle.kfs_posix.proofs.Changing.{IsPut, change_shown, sees, to_save}
-use Rattle.kfs_posix.proofs.Going.{Fell, spare, spare_free, as_before, as_after, change_goes_at, fall_goes}
+use Rattle.kfs_posix.proofs.Going.{Fell, spare, spare_free, as_before, as_after, change_goes_at, fall_goes, Refuses}
 use Rattle.kfs_posix.proofs.Calls.{stands_of, room_for}
 use Rattle.kfs_posix.proofs.Fault.{SameMachine}
+use Rattle.kfs_core.specs.declared.fault.CoreFault.TheVariants.{Device}
 
 -- what the call does to the tree that is shown: the file n gets the given bytes from p on
 pub record Puts (old : Book) (n size p : ℕ) (given : List ℕ) (call : Call) (reply : Reply) (files : Opens) (live : Live) : Type 0 where
@@ -108,7 +108,7 @@ module _ (old : Book) (n size p : ℕ) (given : List ℕ) (call : Call) (reply :
 
   pub wrote_falls : (new : Book) (fault : DeviceFault) → old.down ≡ None → new.down ≡ Some (cause_of fault) → limits_of new ≡ limits_of old → ((world : World) (cause : Cause) → can_fail world call cause ≡ true)
       → ((live : Live) → ShowsLive old live → Puts old n size p given call reply files live)
-      → WriteFault old.run n size p given fault new.run.machine → GoesOn old (lines.Call call) (answers.Reply (replies.Down (cause_of fault))) new
+      → WriteFault old.run n size p given fault new.run.machine → Refuses old call (Device fault) new
   wrote_falls new fault up down same can puts_at h = fall_goes old new call fault up down same (λ live sh.
       let it = puts_at live sh in
       let tree = with_node live.world.tree n (File (written it.bytes p given)) in
@@ -128,7 +128,7 @@ module _ (old : Book) (n size p : ℕ) (given : List ℕ) (call : Call) (reply :
               fallen = x.3;
               stood = as_after w (ap (weight live.world call) it.step_is ∙ it.weighs)
                   (ap (λ (a : After). is_boundary live.since call a.reply (Some w)) it.step_is ∙ (λ i. is_full (sym sh.changes i + 1) (sym sh.weight i + w)) ∙ x.2)
-                  (subst (λ t. IsSaved (limits_of old) (seen (with_super (r put puts size) put.next)) t (live.past.count + 1)) (ap (λ (a : After). a.world.tree) (sym it.step_is)) saved);
+                  (subst (λ t. IsWhole (limits_of old) (seen (with_super (r put puts size) put.next)) t (live.past.count + 1)) (ap (λ (a : After). a.world.tree) (sym it.step_is)) saved);
               can = λ cause e. can live.world cause;
             }
       ])

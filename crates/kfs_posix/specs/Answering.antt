@@ -11,6 +11,7 @@ use Rattle.kfs_path.specs.declared.call.Reply.{Reply}
 use Rattle.kfs_path.specs.declared.call.Reply.TheVariants.{Down, Off, Err}
 use Rattle.kfs_core.specs.declared.fault.CoreFault.{CoreFault}
 use Rattle.kfs_core.specs.declared.fault.CoreFault.TheVariants.{No, Device}
+use Rattle.kfs_core.specs.Starting.{IsOutside}
 use Rattle.kfs_posix.specs.Book.{Book, cause_of}
 
 -- the cuts rose exactly where it is down by a cut, the faults exactly where it is down by a fault
@@ -34,6 +35,11 @@ abbrev pub KeepsCause : Book → Reply → Book → Type 0
 KeepsCause old (Down cause) new = (old.down ≡ None) × (new.down ≡ Some cause)
 KeepsCause old Off new = IsSome old.down × (new ≡ old)
 KeepsCause old reply new = (old.down ≡ None) × (new.down ≡ None)
+
+-- a fault that a session has an answer to: an error of the call, or that power, the device or memory was missing
+abbrev pub IsAnswerable : CoreFault → Type 0
+IsAnswerable (No errno) = Unit {0}
+IsAnswerable (Device fault) = IsOutside fault
 
 -- the answer to a fault, and the cause that is kept after it
 abbrev pub refusal : CoreFault → Reply

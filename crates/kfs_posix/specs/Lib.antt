@@ -15,3 +15,4 @@ pub mod Writing
 pub mod Resizing
 pub mod Bounds
 pub mod Unplanned
+pub mod Refusals

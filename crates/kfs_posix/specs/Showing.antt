@@ -3,6 +3,7 @@ use Rattle.std.specs.Prelude.{ℕ, ◌≡◌, ◌<◌, ◌≤◌, ◌^◌, ◌+�
 use Rattle.kfs_path.specs.declared.call.Cause.{Cause}
 use Rattle.kfs_model.specs.declared.Answer.{Answer}
 use Rattle.kfs_model.specs.declared.Line.{Line}
+use Rattle.kv_base.specs.Counts.{one_more}
 use Rattle.kv_device.specs.Objects.{Objects}
 use Rattle.kfs_model.specs.Tree.{Tree, Limits, charge, chunks, has_room, named, IsTree, IsKept}
 use Rattle.kfs_model.specs.Life.{State, Live, Now, Up, Down, Past, tree_at, Event, AnyOf}
@@ -25,6 +26,14 @@ pub record IsSaved (k : Limits) (m : Objects) (t : Tree) (n : ℕ) : Type 0 wher
   pub count : n < 2 ^ 63
   pub room : has_room k (named t) ≡ true
 
+-- the objects show exactly the tree after n changes, which has room once its nameless nodes are gone
+pub record IsWhole (k : Limits) (m : Objects) (t : Tree) (n : ℕ) : Type 0 where
+  pub tree : IsTree t
+  pub shows : Shows m t n
+  pub next : t.next < 2 ^ 63
+  pub count : n < 2 ^ 63
+  pub room : has_room k (named t) ≡ true
+
 -- an up session: the transaction's view shows the live tree, and `stable` the tree at mark
 pub record ShowsLive (b : Book) (live : Live) : Type 0 where
   pub up : b.down ≡ None
@@ -32,7 +41,7 @@ pub record ShowsLive (b : Book) (live : Live) : Type 0 where
   pub low : live.world.tree.next < 2 ^ 63
   pub few_changes : live.past.count < 2 ^ 63
   pub sees : Shows (seen b.run) live.world.tree live.past.count
-  pub saved : IsSaved (limits_of b) b.run.machine.stable (tree_at live.past live.mark) live.mark
+  pub saved : IsWhole (limits_of b) b.run.machine.stable (tree_at live.past live.mark) live.mark
   pub newest : tree_at live.past live.past.count ≡ live.world.tree
   pub behind : live.mark ≤ live.past.count
   pub desk : live.world.desk ≡ desk_of b.files
@@ -54,13 +63,17 @@ pub record ShowsDown (b : Book) (past : Past) (may : List ℕ) : Type 0 where
   pub down : b.down ≡ Some cause
   pub stands : ℕ
   pub may_be : AnyOf may stands
-  pub saved : IsSaved (limits_of b) b.run.machine.stable (tree_at past stands) stands
+  pub saved : IsWhole (limits_of b) b.run.machine.stable (tree_at past stands) stands
   pub keys : b.keys ≡ b.run.machine.room_keys
   pub pages : b.pages ≡ b.run.machine.room_pages
 
 abbrev pub ShowsNow : Book → Now → Type 0
 ShowsNow b (Up live) = ShowsLive b live
 ShowsNow b (Down past may) = ShowsDown b past may
+
+-- a session that is up shows some live state
+abbrev pub IsShowing : Book → Type 0
+IsShowing b = b.down ≡ None → ∥ ((live : Live) × ShowsLive b live) ∥₁
 
 abbrev pub one_if : Bool → ℕ
 one_if armed = if armed then 1 else 0
@@ -75,6 +88,13 @@ pub record ShowsState (b : Book) (s : State) : Type 0 where
   pub few_cuts : b.run.machine.most_cuts < 2 ^ 63
   pub few_faults : b.run.machine.most_faults < 2 ^ 63
 
--- the line and its answer lead from each state that old shows to one that new shows
+-- the state is shown, and a cut or a fault is armed wherever that count may rise
+pub record Fits (b : Book) (s : State) : Type 0 where
+  pub now : ShowsNow b s.now
+  pub cuts : one_more b.run.machine.cuts ≤ b.run.machine.most_cuts → s.cut_armed ≡ true
+  pub faults : one_more b.run.machine.faults ≤ b.run.machine.most_faults → s.fail_armed ≡ true
+
+-- the line and its answer lead from each state that fits old to one that new shows; where exactly what is planned
+-- was armed, so it is then
 pub record GoesOn (old : Book) (line : Line) (answer : Answer) (new : Book) : Type 0 where
-  pub each : (s : State) → ShowsState old s → (t : State) × Event (limits_of old) s line answer t × ShowsState new t
+  pub each : (s : State) → Fits old s → (t : State) × Event (limits_of old) s line answer t × ShowsNow new t.now × (ShowsState old s → ShowsState new t)

@@ -10,6 +10,7 @@ mod open_files;
 mod opening;
 mod paths;
 mod reading;
+mod refusals;
 mod removing;
 mod renaming;
 mod resizing;
@@ -21,5 +22,6 @@ mod writing;
 
 pub use bounds::sessions_are_light;
 pub use kfs_core::{HostFault, transactions_are_small};
+pub use refusals::nothing_is_refused;
 pub use session::Session;
 pub use unplanned::calls_fail_unplanned_by_memory_alone;

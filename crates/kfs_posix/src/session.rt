@@ -4,8 +4,8 @@ ghost use Rattle.kv_base.specs.Counts.{one_more};
 ghost use Rattle.kv_device.specs.Machine.{none_open, begun};
 ghost use Rattle.kv_device.specs.Calls.{Ages};
 ghost use Rattle.kfs_tx.specs.Run.{age_of, Aged};
-ghost use Rattle.kfs_core.specs.Starting.{NotMounted};
-ghost use Rattle.kfs_posix.specs.Answering.{Asks, Counts, KeepsCause, refusal, down_after};
+ghost use Rattle.kfs_core.specs.Starting.{IsOutside, NotMounted};
+ghost use Rattle.kfs_posix.specs.Answering.{Asks, Counts, IsAnswerable, KeepsCause, refusal, down_after};
 ghost use Rattle.kfs_posix.specs.Book.{cause_of};
 
 use crate::open_files::OpenFiles;
@@ -25,8 +25,8 @@ pub struct Session<D: Device> {
 }
 
 impl<D: Device> Model for Session<D> {
-    ghost use Rattle.std.specs.Prelude.{◌≡◌, true, None};
-    ghost use Rattle.kfs_posix.specs.Book.{SessionState, session_code, state_of};
+    ghost use Rattle.kfs_posix.specs.Book.{SessionState, session_code, book_of, state_of};
+    ghost use Rattle.kfs_posix.specs.Showing.{IsShowing};
 
     ghost Value = { SessionState };
 
@@ -34,21 +34,24 @@ impl<D: Device> Model for Session<D> {
 
     ghost view = { λ s. state_of s.kfs s.files.opens s.down };
 
-    ghost invariant = { λ s. s.down ≡ None → s.kfs.running.run.machine.up ≡ true };
+    ghost invariant = { λ s. IsShowing (book_of s.kfs s.files.opens s.down) };
 }
 
 fn cause_of(fault: &DeviceFault) -> Cause
+    requires { IsOutside fault.now }
     ensures { result ≡ cause_of fault.now }
 {
     match fault {
         DeviceFault::Off => Cause::Cut,
         DeviceFault::Failed => Cause::Eio,
-        _ => Cause::NoMem,
+        DeviceFault::Memory => Cause::NoMem,
+        _ => unreachable!(),
     }
 }
 
 /// The answer to a fault, which takes the session down where it isn't an error of the call.
 pub fn refuse(down: &mut Option<Cause>, fault: CoreFault) -> Reply
+    requires { IsAnswerable fault }
     ensures reply { result ≡ refusal fault }
     ensures down { down.new ≡ down_after down.old fault }
 {
@@ -71,7 +74,7 @@ impl<D: Device> Session<D> {
     ghost use Rattle.kfs_judge.specs.Judging.{heard, room_in};
     ghost use Rattle.kfs_core.specs.Clearing.{Keeps};
     ghost use Rattle.kfs_posix.specs.Mounting.{Mounts};
-    ghost use Rattle.kfs_posix.specs.Showing.{GoesOn};
+    ghost use Rattle.kfs_posix.specs.Showing.{GoesOn, IsShowing};
 
     /// Goes on from the tree that the device holds, with no descriptor open. Objects that show none, or one
     /// without room, are refused with the first damage.
@@ -84,6 +87,7 @@ impl<D: Device> Session<D> {
         ensures clear { OnOk result (IsClear (room_in (D.machine device)) (heard (D.machine device).stable)) }
         ensures begun { IfOk result (λ s. s.book.run.machine ≡ begun (record (D.machine device) { stable = s.book.run.machine.stable }) 0) }
         ensures up { IfOk result (λ s. s.book.down ≡ None) }
+        ensures shows { IfOk result (λ s. IsShowing s.book) }
         ensures keys { IfOk result (λ s. s.book.keys ≡ (D.machine device).room_keys) }
         ensures changes { IfOk result (λ s. s.book.run.changes < 2 ^ 62) }
         ensures next { IfOk result (λ s. s.book.run.next < 2 ^ 62) }
@@ -169,9 +173,10 @@ impl<D: Device> Session<D> {
         }
     }
 
-    /// The cause by which it is down, where it is.
+    /// The cause by which it is down, where it is. While it is up it shows some live state.
     pub fn is_down(&self) -> Option<Cause>
-        ensures { result ≡ self.now.book.down }
+        ensures cause { result ≡ self.now.book.down }
+        ensures shows { IsShowing self.now.book }
     {
         self.down
     }

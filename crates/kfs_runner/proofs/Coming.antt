@@ -10,8 +10,11 @@ use Rattle.kfs_model.specs.declared.Line.{Line}
 use Rattle.kfs_model.specs.declared.Line.TheVariants as lines
 use Rattle.kv_nand.specs.Flash.{Flash}
 use Rattle.kfs_runner.specs.Numbers.{limits_of}
-use Rattle.kfs_runner.specs.Serving.{formats, IsServed, IsAnswered, Overflows}
-use Rattle.kfs_runner.specs.Ending.{Side, Sides, sides, unread, Due, Refused, Answered, Made, bad_words, too_long, too_much, due, due_by, HoldsImage, IsDue, TaskComesTo, IsLoadDue, IsScriptDue}
+use Rattle.kfs_runner.specs.Serving.{formats, formats_first, IsServed, IsServedOn, IsAnswered, Overflows, OverflowsOn}
+use Rattle.nand_mem.specs.ImageFile.{image_bytes, Refuses}
+use Rattle.nand_mem.specs.declared.fault.ImageFault.{ImageFault}
+use Rattle.nand_mem.specs.declared.fault.ImageFault.TheVariants.{Memory as NoMemory}
+use Rattle.kfs_runner.specs.Ending.{Side, Sides, sides, unread, Due, Refused, Answered, OnImage, Made, bad_image, IsBadImage, IsTaken, IsRunOn, IsTooMuchOn, bad_words, too_long, too_much, due, due_by, HoldsImage, IsDue, TaskComesTo, IsLoadDue, IsScriptDue}
 use Rattle.kfs_runner.specs.declared.words.Task.{Task}
 use Rattle.kfs_runner.specs.declared.words.Task.TheVariants.{Nothing, Run, Make}
 
@@ -82,6 +85,7 @@ is_due : (d : Due) (shelf shelf_new before now : Side) (status : ℕ) (text : Li
 is_due (Refused due_status due_text) shelf shelf_new before now status text out is = is
 is_due (Made seed count blocks) shelf shelf_new before now status text out is = is
 is_due (Answered blocks ls) shelf shelf_new before now status text out is = (out, is.1)
+is_due (OnImage ls) shelf shelf_new before now status text out is = (out, is.1)
 
 -- what a script comes to, a run comes to that read it
 pub script_comes : (shelf shelf_new old new : Side) (bytes : List ℕ) (ending : Ending) → GivesAll old.bytes bytes new.bytes → length bytes ≤ script_limit → IsScriptDue (script_of bytes) shelf shelf_new ending → new.faults ≡ old.faults → TaskComesTo Run (sides shelf old) (sides shelf_new new) ending
@@ -115,6 +119,15 @@ is_by blocks ls shelf shelf_new status text first is =
     let D : Due → Type 0 = λ d. IsDue d (sides shelf unread) (sides shelf_new unread) status text in
     subst D (sym (first_formats blocks ls first)) is
 
+-- which is a format
+pub formats_is_first : (blocks : ℕ) (ls : List Line) → formats blocks ls ≡ true → formats_first ls ≡ true
+formats_is_first blocks [] h = cc
+formats_is_first blocks (lines.Format wanted ∷ more) h = refl
+formats_is_first blocks (lines.Mount ∷ more) h = cc
+formats_is_first blocks (lines.Cut n how ∷ more) h = cc
+formats_is_first blocks (lines.Fail kind n ∷ more) h = cc
+formats_is_first blocks (lines.Call call ∷ more) h = cc
+
 -- its answers are due, with the image that was put
 pub served_is_due : (blocks : ℕ) (ls : List Line) (shelf shelf_new : Side) (text : List ℕ) (old new : Flash) → formats blocks ls ≡ true → old.blocks ≡ blocks → IsServed (drop 1 ls) text old new → HoldsImage shelf new.blocks new.image shelf_new → IsScriptDue (Ok ls) shelf shelf_new (Prints 0 text)
 served_is_due blocks ls shelf shelf_new text old new first same served put =
@@ -130,3 +143,48 @@ too_much_is_due blocks ls shelf all ending first much (inl told) =
 too_much_is_due blocks ls shelf all ending first much (inr quiet) =
     let E : Ending → Type 0 = λ e. IsScriptDue (Ok ls) shelf shelf e in
     subst E (sym quiet) (inl (refl, refl))
+
+-- ---- a script on the image of the shelf
+
+on_image : (ls : List Line) → formats_first ls ≡ false → due_by (Ok ls) ≡ OnImage ls
+on_image [] h = refl
+on_image (lines.Format wanted ∷ more) h = cc
+on_image (lines.Mount ∷ more) h = refl
+on_image (lines.Cut n how ∷ more) h = refl
+on_image (lines.Fail kind n ∷ more) h = refl
+on_image (lines.Call call ∷ more) h = refl
+
+is_on : (ls : List Line) (shelf shelf_new : Side) (status : ℕ) (text : List ℕ) → formats_first ls ≡ false → IsBadImage shelf shelf_new status text ⊎ (IsRunOn ls shelf shelf_new status text ⊎ IsTooMuchOn ls shelf shelf_new status text) → IsScriptDue (Ok ls) shelf shelf_new (Prints status text)
+is_on ls shelf shelf_new status text image is =
+    let D : Due → Type 0 = λ d. IsDue d (sides shelf unread) (sides shelf_new unread) status text in
+    subst D (sym (on_image ls image)) (tt, is)
+
+-- what the lines are answered on it is due
+pub run_is_due : (ls : List Line) (shelf shelf_new : Side) (text : List ℕ) (old new : Flash) → formats_first ls ≡ false → IsTaken shelf old → IsServedOn ls text old new → HoldsImage shelf new.blocks new.image shelf_new → IsScriptDue (Ok ls) shelf shelf_new (Prints 0 text)
+run_is_due ls shelf shelf_new text old new image taken served put =
+    is_on ls shelf shelf_new 0 text image (inr (inl (record { status_is = refl; old = old; new = new; taken = taken; served = served; put = put })))
+
+pub too_much_on : (ls : List Line) (shelf : Side) (all : List ℕ) (old : Flash) (ending : Ending) → formats_first ls ≡ false → IsTaken shelf old → OverflowsOn old ls all → (ending ≡ Prints 9 too_much) ⊎ (ending ≡ Quiet 7) → IsScriptDue (Ok ls) shelf shelf ending
+too_much_on ls shelf all old ending image taken much (inl told) =
+    let E : Ending → Type 0 = λ e. IsScriptDue (Ok ls) shelf shelf e in
+    subst E (sym told) (is_on ls shelf shelf 9 too_much image (inr (inr (record { status_is = refl; text_is = refl; old = old; taken = taken; all = all; overflows = much; unput = refl }))))
+too_much_on ls shelf all old ending image taken much (inr quiet) =
+    let E : Ending → Type 0 = λ e. IsScriptDue (Ok ls) shelf shelf e in
+    subst E (sym quiet) (inl (refl, refl))
+
+bytes_told : (held : Option (List ℕ)) (bytes : List ℕ) (P : List ℕ → Type 0) → IfSome held (λ all. bytes ≡ all) → P bytes → IfSome held P
+bytes_told (Some all) bytes P is here = subst P is here
+bytes_told None bytes P is here = tt
+
+-- so is the refusal of bytes that are no image file
+pub bad_is_due : (ls : List Line) (shelf : Side) (bytes : List ℕ) (fault : ImageFault) (ending : Ending) → formats_first ls ≡ false → IfSome shelf.bytes (λ all. bytes ≡ all) → Refuses bytes fault → (fault ≡ NoMemory → ⊥) → (ending ≡ Prints 3 bad_image) ⊎ (ending ≡ Quiet 7) → IsScriptDue (Ok ls) shelf shelf ending
+bad_is_due ls shelf bytes fault ending image held refuses found (inl told) =
+    let E : Ending → Type 0 = λ e. IsScriptDue (Ok ls) shelf shelf e in
+    subst E (sym told) (is_on ls shelf shelf 3 bad_image image (inl (record { status_is = refl; text_is = refl; fault = fault; refuses = bytes_told shelf.bytes bytes (λ b. Refuses b fault) held refuses; found = found; unput = refl })))
+bad_is_due ls shelf bytes fault ending image held refuses found (inr quiet) =
+    let E : Ending → Type 0 = λ e. IsScriptDue (Ok ls) shelf shelf e in
+    subst E (sym quiet) (inl (refl, refl))
+
+-- the file of a flash's image was taken
+pub taken_from : (shelf : Side) (bytes : List ℕ) (flash : Flash) → IfSome shelf.bytes (λ all. bytes ≡ all) → bytes ≡ image_bytes flash.image flash.blocks → 256 ≤ flash.blocks → flash.blocks ≤ 2048 → IsTaken shelf flash
+taken_from shelf bytes flash held is least most = record { file = bytes_told shelf.bytes bytes (λ b. b ≡ image_bytes flash.image flash.blocks) held is; least = least; most = most }

@@ -22,7 +22,8 @@ use Rattle.kfs_runner.specs.Words.{task_of}
 use Rattle.kfs_runner.specs.Outside.{Takes}
 use Rattle.kfs_runner.specs.Serving.{AreAnswers}
 use Rattle.kfs_runner.specs.Ending.{Side, Sides, Due, Answered, due, due_by, IsDue, TaskComesTo, IsWritten}
-use Rattle.kfs_runner.specs.Seats.{Seated, Mounted, Bare, ShowsBare, shows_seat, seat_machine}
+use Rattle.kfs_runner.specs.Seats.{Seated, Mounted, Bare, ShowsBare, IsLow, shows_seat, seat_machine}
+use Rattle.kfs_runner.proofs.MountLaws.{past_of, newest}
 use Rattle.kfs_runner.specs.Complete.{NothingFailed, ArePlainAnswers, IsAnsweredWhole, IsAnsweredTooLong, EachEndIsComplete, LinesFailUnplannedByMemoryAlone, MountsFailUnplannedByMemoryAlone}
 use Rattle.kfs_runner.proofs.Coming.{due_script}
 
@@ -96,19 +97,12 @@ unarmed_device m s none shows = record {
 
 unarmed_seat : (seat : Seated) (s : State) → IsUnplanned (seat_machine seat) → shows_seat seat s → shows_seat seat (unarmed s)
 unarmed_seat (Mounted session) s none shows = unarmed_session session.book s none shows
-unarmed_seat (Bare m age) s none shows = unarmed_device m s none shows
+unarmed_seat (Bare m age rested) s none shows = unarmed_device m s none shows
 
 pub lines_plain : LinesFailUnplannedByMemoryAlone
-lines_plain old new line answer all plain none s shows =
-    let went = all.each (unarmed s) (unarmed_seat old s none shows) in
+lines_plain old new line answer all plain none s shows low whole young =
+    let went = all.each (unarmed s) (unarmed_seat old s none shows) low whole young in
     (went.0.now, (goes _ (unarmed s) went.0 s.now line answer (record { cut = refl; fault = refl }) plain refl went.1).0)
-
--- a life of one tree
-abbrev past_of : Tree → ℕ → Past
-past_of t k = record { count = k; trees = t ∷ [] }
-
-newest : (t : Tree) (k : ℕ) → tree_at (past_of t k) k ≡ t
-newest t k = let none : k - k ≡ 0 = omega arith in rw none refl
 
 mounted_or : (limits : Limits) (past : Past) (k : ℕ) (answer : Answer) → PlainAnswer limits (Down past (k ∷ [])) lines.Mount answer → (answer ≡ answers.Mounted k) ⊎ (answer ≡ no_memory)
 mounted_or limits past k answer (next, inl (n, inl same, is, up)) = inl (is ∙ ap answers.Mounted same)
@@ -116,7 +110,7 @@ mounted_or limits past k answer (next, inl (n, inr other, is, up)) = absurd othe
 mounted_or limits past k answer (next, inr wants) = inr wants.0
 
 pub mounts_plain : MountsFailUnplannedByMemoryAlone
-mounts_plain m age k t answer new all none cuts faults stored =
+mounts_plain m age k rested t answer new all none cuts faults stored few next whole young =
     let T : Tree → Type 0 = λ tree. IsSaved (limits_in m) m.stable tree k in
     let s : State = record { now = Down (past_of t k) (k ∷ []); cut_armed = false; fail_armed = false } in
     let shows : ShowsBare m s = record {
@@ -136,4 +130,11 @@ mounts_plain m age k t answer new all none cuts faults stored =
         };
       };
     } in
-    mounted_or (limits_in m) (past_of t k) k answer (lines_plain (Bare m age) new lines.Mount answer all refl none s shows)
+    let low : IsLow s = λ past at stands.
+    let here : tree_at past at ≡ t = (λ i. tree_at (stands.0 i) (only at stands.1 i)) ∙ newest t k in
+    (omega (arith, only at stands.1, few), omega (arith, ap (λ (x : Tree). x.next) here, next)) in
+    mounted_or (limits_in m) (past_of t k) k answer (lines_plain (Bare m age rested) new lines.Mount answer all refl none s shows low whole young)
+  where
+    only : (n : ℕ) → (n ≡ k) ⊎ ⊥ → n ≡ k
+    only n (inl is) = is
+    only n (inr none) = absurd none

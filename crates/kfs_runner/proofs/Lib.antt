@@ -3,10 +3,13 @@ pub mod Coming
 pub mod LinesMore
 pub mod Asking
 pub mod Lives
+pub mod LineSize
 pub mod LineCount
 pub mod SeatLaws
+pub mod Undamaged
+pub mod MountLaws
 pub mod LoadRuns
 pub mod ServedLines
-pub mod Undamaged
+pub mod ServedImages
 pub mod Waking
 pub mod Completing

@@ -25,7 +25,8 @@ use Rattle.kfs_model.specs.Life.{State, Live, Now, Up, Down, Past, tree_at, up_a
 use Rattle.kfs_model.specs.Change.{weight, is_boundary}
 use Rattle.kfs_laws.proofs.Outcomes
 use Rattle.kfs_laws.proofs.Sound.{sound, next_to}
-use Rattle.kfs_runner.specs.Seats.{StandsAt}
+use Rattle.kfs_runner.specs.Young.{Low, IsYoungPast, IsYoung}
+use Rattle.kfs_runner.specs.Seats.{StandsAt, IsLow}
 use Rattle.kfs_runner.specs.Serving.{AreAnswers}
 use Rattle.kfs_runner.specs.Strikes.{is_cut, plans_cut, is_cut_planned}
 
@@ -140,7 +141,7 @@ arms_on false false true true any = refl
 arms_on false false true false any = refl
 arms_on false false false came any = refl
 
-armed_at_end : (k : Limits) (old end : State) (ls : List Line) (given : List Answer) → Life k old ls given end → end.cut_armed ≡ (is_cut_planned ls given || (old.cut_armed && not (list_any is_cut given)))
+pub armed_at_end : (k : Limits) (old end : State) (ls : List Line) (given : List Answer) → Life k old ls given end → end.cut_armed ≡ (is_cut_planned ls given || (old.cut_armed && not (list_any is_cut given)))
 armed_at_end k old end [] [] same = ap (λ (x : State). x.cut_armed) same ∙ sym (and-true old.cut_armed)
 armed_at_end k old end (line ∷ ls) (answer ∷ given) (mid, event, life) =
     let any = list_any is_cut given in
@@ -159,25 +160,13 @@ armed_by k ls given end are = armed_at_end k newborn end ls (drop 1 given) (life
 
 -- ---- how far numbers rise
 
--- a tree's next number is at most so many above the first
-abbrev Low : ℕ → Tree → Type 0
-Low n t = t.next ≤ n + 2
-
-record IsLow (n : ℕ) (past : Past) : Type 0 where
-  count : past.count ≤ n
-  trees : All (Low n) past.trees
-
-abbrev NowLow : ℕ → Now → Type 0
-NowLow n (Up live) = IsLow n live.past × (live.mark ≤ n) × Low n live.world.tree
-NowLow n (Down past may) = IsLow n past × ((k : ℕ) → AnyOf may k → k ≤ n)
-
-low_above : (n m : ℕ) (past : Past) → n ≤ m → IsLow n past → IsLow m past
+low_above : (n m : ℕ) (past : Past) → n ≤ m → IsYoungPast n past → IsYoungPast m past
 low_above n m past le low = record {
   count = omega (arith, le, low.count);
   trees = All-weaker (Low n) (Low m) (λ t h. omega (arith, le, h)) past.trees low.trees;
 }
 
-now_above : (n m : ℕ) (now : Now) → n ≤ m → NowLow n now → NowLow m now
+now_above : (n m : ℕ) (now : Now) → n ≤ m → IsYoung n now → IsYoung m now
 now_above n m (Up live) le (past, mark, tree) = (low_above n m live.past le past, omega (arith, le, mark), omega (arith, le, tree))
 now_above n m (Down old may) le (past, all) = (low_above n m old le past, λ k is. omega (arith, le, all k is))
 
@@ -186,10 +175,10 @@ low_get n [] i all = omega arith
 low_get n (t ∷ ts) zero all = All-head (Low n) t ts all
 low_get n (t ∷ ts) (suc i) all = low_get n ts i (All-tail (Low n) t ts all)
 
-low_at : (n k : ℕ) (past : Past) → IsLow n past → Low n (tree_at past k)
+low_at : (n k : ℕ) (past : Past) → IsYoungPast n past → Low n (tree_at past k)
 low_at n k past low = low_get n past.trees (past.count - k) low.trees
 
-low_up : (n k : ℕ) (past : Past) → k ≤ n → IsLow n past → NowLow n (Up (up_at past k))
+low_up : (n k : ℕ) (past : Past) → k ≤ n → IsYoungPast n past → IsYoung n (Up (up_at past k))
 low_up n k past le low =
     let here = low_at n k past low in (
       record { count = le; trees = All-cons (Low n) (named (tree_at past k)) (drop (past.count - k + 1) past.trees) here (All-drop (Low n) (past.count - k + 1) past.trees low.trees) },
@@ -197,7 +186,7 @@ low_up n k past le low =
       here,
     )
 
-low_after : (n : ℕ) (past : Past) (t : Tree) (change : Option ℕ) → IsLow n past → Low (n + 1) t → IsLow (n + 1) (past_after past t change)
+low_after : (n : ℕ) (past : Past) (t : Tree) (change : Option ℕ) → IsYoungPast n past → Low (n + 1) t → IsYoungPast (n + 1) (past_after past t change)
 low_after n past t None low here = low_above n (n + 1) past (omega arith) low
 low_after n past t (Some weight) low here =
     let before = low_above n (n + 1) past (omega arith) low in
@@ -216,8 +205,8 @@ any_low false x y n low high k (inr none) = absurd none
 low_step : (k : Limits) (d n : ℕ) (w : Step.World) (call : Call) → Low n w.tree → Low (n + 1) (step k d w call).world.tree
 low_step k d n w call low = omega (arith, low, next_to w (Step.effect k d w call) (sound k d w call))
 
-low_now : (n : ℕ) (t : State) (now : Now) → t.now ≡ now → NowLow n now → NowLow n t.now
-low_now n t now same low = subst (NowLow n) (sym same) low
+low_now : (n : ℕ) (t : State) (now : Now) → t.now ≡ now → IsYoung n now → IsYoung n t.now
+low_now n t now same low = subst (IsYoung n) (sym same) low
 
 -- the state goes down whatever the cause
 fell : (s : State) (cause : Cause) (to : Now) (t : State) → t ≡ disarmed s cause to → t.now ≡ to
@@ -225,20 +214,20 @@ fell s causes.Cut to t same = ap (λ (x : State). x.now) same
 fell s causes.Eio to t same = ap (λ (x : State). x.now) same
 fell s causes.NoMem to t same = ap (λ (x : State). x.now) same
 
-live_low : (live : Live) (call : Call) (after : Step.After) (n : ℕ) → IsLow n live.past → live.mark ≤ n → Low (n + 1) after.world.tree → NowLow (n + 1) (Up (live_after live call after))
+live_low : (live : Live) (call : Call) (after : Step.After) (n : ℕ) → IsYoungPast n live.past → live.mark ≤ n → Low (n + 1) after.world.tree → IsYoung (n + 1) (Up (live_after live call after))
 live_low live call after n past mark here =
     let change = weight live.world call after in
     let next = low_after n live.past after.world.tree change past here in
     (next, le_either (is_boundary live.since call after.reply change) (past_after live.past after.world.tree change).count live.mark (n + 1) next.count (omega (arith, mark)), here)
 
-fallen_low : (live : Live) (call : Call) (after : Step.After) (n : ℕ) → IsLow n live.past → live.mark ≤ n → Low (n + 1) after.world.tree → NowLow (n + 1) (fallen live call after)
+fallen_low : (live : Live) (call : Call) (after : Step.After) (n : ℕ) → IsYoungPast n live.past → live.mark ≤ n → Low (n + 1) after.world.tree → IsYoung (n + 1) (fallen live call after)
 fallen_low live call after n past mark here =
     let change = weight live.world call after in
     let next = low_after n live.past after.world.tree change past here in
     (next, any_low (is_boundary live.since call after.reply change) live.mark (past_after live.past after.world.tree change).count (n + 1) (omega (arith, mark)) next.count)
 
 -- a line makes one change and one node at most
-event_low : (k : Limits) (n : ℕ) (s : State) (now : Now) (line : Line) (answer : Answer) (t : State) → NowLow n now → s.now ≡ now → EventAt k s now line answer t → NowLow (n + 1) t.now
+pub event_low : (k : Limits) (n : ℕ) (s : State) (now : Now) (line : Line) (answer : Answer) (t : State) → IsYoung n now → s.now ≡ now → EventAt k s now line answer t → IsYoung (n + 1) t.now
 event_low k n s (Up live) (lines.Call call) (answers.Reply reply) t (past, mark, tree) at (d, free, inl done) =
     let after = step k d live.world call in
     let here = low_step k d n live.world call tree in
@@ -269,27 +258,36 @@ event_low k n s (Down old may) lines.Mount (answers.Refused damage) t low at eve
 event_low k n s (Up live) (lines.Format blocks) answer t low at event = absurd event
 event_low k n s (Down old may) (lines.Format blocks) answer t low at event = absurd event
 
-life_low : (k : Limits) (n m : ℕ) (old end : State) (ls : List Line) (given : List Answer) → n + length ls ≤ m → NowLow n old.now → Life k old ls given end → NowLow m end.now
+pub life_low : (k : Limits) (n m : ℕ) (old end : State) (ls : List Line) (given : List Answer) → n + length ls ≤ m → IsYoung n old.now → Life k old ls given end → IsYoung m end.now
 life_low k n m old end [] [] le low same = low_now m end old.now (ap (λ (x : State). x.now) same) (now_above n m old.now (omega arith) low)
 life_low k n m old end (line ∷ ls) (answer ∷ given) le low (mid, event, life) =
     life_low k (n + 1) m mid end ls given (omega arith) (event_low k n old old.now line answer mid low refl event) life
 life_low k n m old end [] (answer ∷ given) le low life = absurd life
 life_low k n m old end (line ∷ ls) [] le low life = absurd life
 
-stands_low : (n : ℕ) (now : Now) (past : Past) (k : ℕ) → NowLow n now → StandsAt now past k → (k ≤ n) × Low n (tree_at past k)
+stands_low : (n : ℕ) (now : Now) (past : Past) (k : ℕ) → IsYoung n now → StandsAt now past k → (k ≤ n) × Low n (tree_at past k)
 stands_low n (Up live) past k (low, mark, tree) (is, at) =
-    let here : IsLow n past = subst (IsLow n) (sym is) low in
+    let here : IsYoungPast n past = subst (IsYoungPast n) (sym is) low in
     (omega (arith, at, mark), low_at n k past here)
 stands_low n (Down old may) past k (low, all) (is, any) =
-    let here : IsLow n past = subst (IsLow n) (sym is) low in
+    let here : IsYoungPast n past = subst (IsYoungPast n) (sym is) low in
     (all k any, low_at n k past here)
 
-newborn_low : NowLow 0 newborn.now
+pub newborn_low : IsYoung 0 newborn.now
 newborn_low = (record { count = omega arith; trees = All-cons (Low 0) root_alone [] (omega arith) (All-nil (Low 0)) }, omega arith, omega arith)
 
--- where a script has few lines, what its life stands at has low numbers
-pub ends_low : (k : Limits) (ls : List Line) (given : List Answer) (end : State) (past : Past) (at : ℕ) → length ls ≤ 2 ^ 23 → AreAnswers k ls given end → StandsAt end.now past at → (at < 2 ^ 62) × ((tree_at past at).next < 2 ^ 62)
-ends_low k ls given end past at few are stands =
-    let low = life_low k 0 (2 ^ 23) newborn end ls (drop 1 given) (omega (arith, few)) newborn_low (life_of k ls given end are) in
-    let it = stands_low (2 ^ 23) end.now past at low stands in
+pub newborn_young : IsYoung (2 ^ 61) newborn.now
+newborn_young = now_above 0 (2 ^ 61) newborn.now (omega arith) newborn_low
+
+-- a life that begins with numbers below `2 ^ 61` stays at numbers that a mount takes
+pub stays_low : (k : Limits) (old end : State) (ls : List Line) (given : List Answer) → length ls ≤ 2 ^ 22 → IsYoung (2 ^ 61) old.now → Life k old ls given end → IsLow end
+stays_low k old end ls given few young life past at stands =
+    let low = life_low k (2 ^ 61) (2 ^ 61 + 2 ^ 22) old end ls given (omega (arith, few)) young life in
+    let it = stands_low (2 ^ 61 + 2 ^ 22) end.now past at low stands in
     (omega (arith, it.0), omega (arith, it.1))
+
+-- numbers that are low enough are those that a mount takes
+pub young_low : (n : ℕ) (s : State) → n + 2 < 2 ^ 62 → IsYoung n s.now → IsLow s
+young_low n s few young past at stands =
+    let it = stands_low n s.now past at young stands in
+    (omega (arith, few, it.0), omega (arith, few, it.1))

@@ -27,7 +27,9 @@ use Rattle.kfs_load.proofs.Counting.{dones_more, errors_more}
 use Rattle.kfs_load.proofs.Named.{named_all}
 use Rattle.kfs_runner.specs.declared.load.Tally.{Tally}
 use Rattle.kfs_script.specs.Script.{IsLine, is_format}
-use Rattle.kfs_runner.specs.Seats.{Seated, Mounted, Bare, IsDown, shows_seat, seat_limits, seat_age}
+use Rattle.kfs_runner.specs.Seats.{Seated, Mounted, Bare, IsDown, shows_seat, seat_limits}
+use Rattle.kfs_runner.specs.Young.{IsYoung}
+use Rattle.kfs_runner.proofs.Lives.{newborn_low, event_low}
 use Rattle.kfs_runner.specs.Numbers.{limits_of, line_age}
 use Rattle.kfs_runner.specs.Load.{numbers_text, lines_text, load_text}
 use Rattle.kfs_runner.specs.Counts.{counted, is_down, Counts, plain_behind, IsCounted}
@@ -48,7 +50,7 @@ live_whole b live shows closed marked =
 -- behind a commit with nothing open the tree is that of the mount
 seat_whole : (seat : Seated) (s : State) (live : Live) → shows_seat seat s → s.now ≡ Up live → live.world.desk ≡ empty_desk → live.mark ≡ live.past.count → named (tree_at live.past live.mark) ≡ live.world.tree
 seat_whole (Mounted session) s live shows up closed marked = live_whole session.book live (subst (ShowsNow session.book) up shows.now) closed marked
-seat_whole (Bare m age) s live shows up closed marked = absurd (subst IsDown up shows.down)
+seat_whole (Bare m age rested) s live shows up closed marked = absurd (subst IsDown up shows.down)
 
 -- ---- what holds between the lines
 
@@ -66,6 +68,9 @@ pub record IsAt (k : Limits) (seat : Seated) (plain : Plain) (tally : Tally) (re
   pub follow : Follow place rest
   pub held : Held place own live
   pub beside : Beside place live plain.world tally
+  pub changes : ℕ
+  pub young : IsYoung changes state.now
+  pub spent : changes + length rest ≤ length all
   pub up : state.now ≡ Up own
   pub shows : shows_seat seat state
   pub limits : seat_limits seat ≡ k
@@ -86,6 +91,9 @@ begins seat plain ls shows is follow = record {
   follow = follow;
   held = record { same = refl; closed = refl; marked = λ e. absurd (cc) };
   beside = ap (λ (p : Plain). p.world) is;
+  changes = 0;
+  young = newborn_low;
+  spent = omega arith;
   up = refl;
   shows = shows;
   limits = refl;
@@ -97,10 +105,8 @@ begins seat plain ls shows is follow = record {
 
 -- ---- one line more
 
-abbrev pub SeatDoes : Seated → Line → Answer → Seated → Type 0
-SeatDoes seat line answer new =
-    (s : State) → shows_seat seat s → (t : State) × Event (seat_limits seat) s line answer t × shows_seat new t
-    × (seat_limits new ≡ seat_limits seat) × (seat_age new ≤ max (seat_age seat) (2 ^ 62) + line_age)
+abbrev pub SeatDoes : Seated → State → Line → Answer → Seated → Type 0
+SeatDoes seat s line answer new = (t : State) × Event (seat_limits seat) s line answer t × shows_seat new t × (seat_limits new ≡ seat_limits seat)
 
 -- a call that was counted is done
 record DoneBy (k : Limits) (s : State) (own : Live) (call : Call) (t : State) (old new : Tally) : Type 0 where
@@ -144,9 +150,9 @@ module _ (k : Limits) (seat new : Seated) (plain : Plain) (tally next : Tally) (
       let N : Now → Type 0 = λ n. EventAt k at.state n line answer t in
       subst N at.up (subst L at.limits event)
 
-  call_on : (call : Call) → IsAt k seat plain tally (lines.Call call ∷ rest) all → SeatDoes seat (lines.Call call) answer new → Counts tally answer next → IsAt k new (plain_behind plain (lines.Call call)) next rest all
+  call_on : (call : Call) → (at : IsAt k seat plain tally (lines.Call call ∷ rest) all) → SeatDoes seat at.state (lines.Call call) answer new → Counts tally answer next → IsAt k new (plain_behind plain (lines.Call call)) next rest all
   call_on call at does counts =
-      let went = does at.state at.shows in
+      let went = does in
       let done = done_by k at.state at.own call answer went.0 tally next (happens (lines.Call call) at went.0 went.1) counts in
       let goes = call_goes k done.d at.place at.own at.live call rest at.held at.follow in
       let reply = (done_call k at.live call).reply in
@@ -162,6 +168,9 @@ module _ (k : Limits) (seat new : Seated) (plain : Plain) (tally next : Tally) (
         follow = goes.follow;
         held = goes.held;
         beside = beside_going goes.next (behind_line k at.live (lines.Call call)) (plain_behind plain (lines.Call call)).world next goes.going behind;
+        changes = at.changes + 1;
+        spent = omega (arith, at.spent);
+        young = event_low (seat_limits seat) at.changes at.state at.state.now (lines.Call call) answer went.0 at.young refl went.1;
         up = ap (λ (x : State). x.now) done.next;
         shows = went.2;
         limits = went.3 ∙ at.limits;
@@ -196,9 +205,9 @@ synced_at Opened own live w tally rest follow held beside = absurd follow
 synced_at Over own live w tally rest follow held beside = absurd follow
 
 module _ (k : Limits) (seat new : Seated) (plain : Plain) (tally next : Tally) (rest all : List Line) (answer : Answer) where
-  mount_on : IsAt k seat plain tally (lines.Mount ∷ rest) all → SeatDoes seat lines.Mount answer new → Counts tally answer next → IsAt k new plain next rest all
+  mount_on : (at : IsAt k seat plain tally (lines.Mount ∷ rest) all) → SeatDoes seat at.state lines.Mount answer new → Counts tally answer next → IsAt k new plain next rest all
   mount_on at does counts =
-      let went = does at.state at.shows in
+      let went = does in
       let done = mounted_by k at.state at.own answer went.0 tally next (happens k seat new plain tally next rest all answer lines.Mount at went.0 went.1) counts in
       let synced = synced_at at.place at.own at.live plain.world tally rest at.follow at.held at.beside in
       let marked = synced.one.marked refl in
@@ -215,6 +224,9 @@ module _ (k : Limits) (seat new : Seated) (plain : Plain) (tally next : Tally) (
         follow = synced.follow;
         held = tt;
         beside = (ap (λ (w : World). w.tree) synced.world ∙ sym whole, number);
+        changes = at.changes + 1;
+        spent = omega (arith, at.spent);
+        young = event_low (seat_limits seat) at.changes at.state at.state.now lines.Mount answer went.0 at.young refl went.1;
         up = ap (λ (x : State). x.now) done.next;
         shows = went.2;
         limits = went.3 ∙ at.limits;
@@ -244,7 +256,7 @@ no_fail Over kind n rest follow = follow
 
 -- a line was done and counted
 pub goes_on : (k : Limits) (seat new : Seated) (plain : Plain) (tally next : Tally) (line : Line) (rest all : List Line) (answer : Answer)
-    → IsAt k seat plain tally (line ∷ rest) all → SeatDoes seat line answer new → Counts tally answer next → IsAt k new (plain_behind plain line) next rest all
+    → (at : IsAt k seat plain tally (line ∷ rest) all) → SeatDoes seat at.state line answer new → Counts tally answer next → IsAt k new (plain_behind plain line) next rest all
 goes_on k seat new plain tally next (lines.Call call) rest all answer at does counts = call_on k seat new plain tally next rest all answer call at does counts
 goes_on k seat new plain tally next lines.Mount rest all answer at does counts = mount_on k seat new plain tally next rest all answer at does counts
 goes_on k seat new plain tally next (lines.Format blocks) rest all answer at does counts = absurd (no_format at.place blocks rest at.follow)

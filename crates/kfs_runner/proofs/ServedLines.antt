@@ -1,5 +1,5 @@
 -- What was done on a device that rests, and on a flash.
-use Rattle.std.proofs.Common.{◌≡◌, ◌≤◌, ◌<◌, ◌+◌, ◌^◌, ◌++◌, ◌∷◌, ◌∙◌, [], ℕ, List, cond, Bool, true, false, length, refl, sym, ap, subst, arith}
+use Rattle.std.proofs.Common.{◌≡◌, ◌≤◌, ◌<◌, ◌+◌, ◌^◌, ◌++◌, ◌∷◌, ◌∙◌, [], ℕ, Option, Some, List, cond, Bool, true, false, length, refl, sym, ap, subst, arith}
 use Rattle.std.specs.List.{count_by}
 use Rattle.std.proofs.lemmas.List.Sums.{sum_by-cons}
 use Rattle.kv_nand.specs.Flash.{Flash}
@@ -13,22 +13,26 @@ use Rattle.std.proofs.lemmas.Bool.Decides.{nat_tests}
 use Rattle.kfs_model.specs.declared.Answer.{Answer}
 use Rattle.kfs_model.specs.declared.Answer.TheVariants as answers
 use Rattle.kfs_model.specs.Tree.{Limits}
-use Rattle.kfs_model.specs.Life.{State}
+use Rattle.kfs_model.specs.Life.{State, Life, newborn}
 use Rattle.kfs_script.specs.AnswerText.{text_of, texts_of}
 use Rattle.kfs_posix.specs.Showing.{one_if}
 use Rattle.kfs_posix.specs.Mounting.{limits_in}
 use Rattle.kssd_image.specs.Whole.{age_in}
 use Rattle.kssd_machine.specs.Machines.{resting}
 use Rattle.kssd_mount.proofs.Taking.{taken}
-use Rattle.kfs_runner.specs.Flashes.{CanRest, new_on}
+use Rattle.kfs_runner.specs.Flashes.{HasBlocks, new_on}
 use Rattle.kfs_runner.specs.Numbers.{limits_of}
 use Rattle.kfs_runner.specs.Lines.{AnsweredFrom, OverflowsFrom}
 use Rattle.kfs_runner.specs.Strikes.{Strikes, strikes_of, struck_by, is_cut, is_failure}
-use Rattle.kfs_runner.specs.Seats.{Seated, Stores, shows_seat, seat_limits, seat_machine, seat_strikes}
-use Rattle.kfs_runner.specs.Serving.{formats, AreDone, IsServed, Overflows, StandsFor, output_limit}
-use Rattle.kfs_runner.proofs.SeatLaws.{seat_stores, seat_room}
+use Rattle.kfs_runner.specs.Seats.{Seated, Known, Stores, shows_seat, seat_limits, seat_machine, seat_strikes}
+use Rattle.kfs_runner.specs.Serving.{formats, AreDone, IsServed, Overflows, StandsFor, StopsServing, StopsBehind, output_limit}
+use Rattle.kfs_runner.specs.declared.serving.ServeFault.{ServeFault}
+use Rattle.kfs_runner.specs.declared.serving.ServeFault.TheVariants.{TooLong, Memory}
+use Rattle.kfs_runner.specs.Refusals.{Rested, rested_on, whole_in}
+use Rattle.kfs_runner.specs.Young.{IsYoung}
+use Rattle.kfs_runner.proofs.SeatLaws.{seat_stores, known_room}
 use Rattle.kfs_runner.proofs.LinesMore.{one_counted}
-use Rattle.kfs_runner.proofs.Lives.{armed_by, ends_low}
+use Rattle.kfs_runner.proofs.Lives.{armed_by, armed_at_end, stays_low, newborn_young}
 
 -- ---- on a device
 
@@ -86,30 +90,35 @@ struck_first before given =
     let faults = counted_first is_failure given refl in
     λ i. record { cuts = before.cuts + cuts i; faults = before.faults + faults i }
 
-pub done : (old new : Seated) (rests : Machine) (ls : List Line) (first text : List ℕ) → first ≡ text_of done_first → AnsweredFrom (seat_limits old) ls output_limit first text (shows_seat new) (seat_strikes old) (seat_strikes new) → seat_limits new ≡ seat_limits old → down rests ≡ down (seat_machine new) → AreDone (seat_limits old) ls text (seat_strikes old) rests
-done old new rests ls first text begins all room same = record {
-  given = done_first ∷ all.given;
-  end = all.end;
-  are = (refl, all.life);
-  same = all.text ∙ ap (λ t. t ++ texts_of all.given) begins;
+pub done : (old new : Seated) (rests : Machine) (ls : List Line) (first text : List ℕ) (begins : State → Type 0) (rested : Option Rested) → Known new → AnsweredFrom (seat_limits old) ls output_limit first text begins (shows_seat new) rested (seat_strikes old) (seat_strikes new) → seat_limits new ≡ seat_limits old → down rests ≡ down (seat_machine new) → AreDone (seat_limits old) ls first text begins rested (seat_strikes old) rests
+done old new rests ls first text begins rested known all room same = record {
+  given = all.given;
+  same = all.text;
   short = all.short;
-  stores = stores_rest (seat_machine new) rests all.end same (seat_stores new all.end all.shown);
-  room = ap limits_in same ∙ sym (seat_room new all.end all.shown) ∙ room;
-  strikes = ap strikes_of same ∙ all.strikes ∙ sym (struck_first (seat_strikes old) all.given);
+  lives = λ s begin young. let it = all.lives s begin young in (it.0, it.1, stores_rest (seat_machine new) rests it.0 same (seat_stores new it.0 it.2));
+  damaged = all.damaged;
+  room = ap limits_in same ∙ sym (known_room new known) ∙ room;
+  strikes = ap strikes_of same ∙ all.strikes;
 }
 
-pub too_much : (limits : Limits) (ls : List Line) (first text : List ℕ) → first ≡ text_of done_first → OverflowsFrom limits ls output_limit first text → Overflows limits ls text
-too_much limits ls first text begins over = record {
-  count = over.count;
-  given = done_first ∷ over.given;
-  last = over.last;
-  end = over.end;
-  some = over.some;
-  are = (refl, over.life);
-  same = over.text ∙ ap (λ t. t ++ texts_of (over.given ++ over.last ∷ [])) begins;
-  below = subst (λ (t : List ℕ). length (t ++ texts_of over.given) ≤ output_limit) begins over.below;
-  above = over.above;
-}
+pub too_much : (limits : Limits) (ls : List Line) (first text : List ℕ) (begins : State → Type 0) (rested : Option Rested) → first ≡ text_of done_first → begins newborn → OverflowsFrom limits ls output_limit first text begins rested → Overflows limits ls text
+too_much limits ls first text begins rested is begin over =
+    let it = over.lives newborn begin newborn_young in
+    record {
+      count = over.count;
+      given = done_first ∷ over.given;
+      last = over.last;
+      end = it.0;
+      some = over.some;
+      are = (refl, it.1);
+      same = over.text ∙ ap (λ t. t ++ texts_of (over.given ++ over.last ∷ [])) is;
+      below = subst (λ (t : List ℕ). length (t ++ texts_of over.given) ≤ output_limit) is over.below;
+      above = over.above;
+    }
+
+pub stops : (limits : Limits) (ls : List Line) (first : List ℕ) (begins : State → Type 0) (rested : Option Rested) (fault : ServeFault) → first ≡ text_of done_first → begins newborn → StopsBehind limits ls first begins rested fault → StopsServing limits ls fault
+stops limits ls first begins rested (TooLong text) is begin over = too_much limits ls first text begins rested is begin over
+stops limits ls first begins rested Memory is begin over = tt
 
 -- ---- on a flash
 
@@ -126,39 +135,51 @@ formats_some blocks (lines.Fail kind n ∷ more) held first = cc
 formats_some blocks (lines.Call call ∷ more) held first = cc
 
 -- a device holds so much by its blocks alone
-same_blocks : (a b : ℕ) → 256 ≤ a → 256 ≤ b → limits_of a ≡ limits_of b → a ≡ b
+pub same_blocks : (a b : ℕ) → 256 ≤ a → 256 ≤ b → limits_of a ≡ limits_of b → a ≡ b
 same_blocks a b least_a least_b same =
     let keys = ap (λ (l : Limits). l.keys) same in
     let pages = ap (λ (l : Limits). l.pages) same in
     omega (arith, keys, pages)
 
-pub moved : (l k : Limits) (ls ks : List Line) (text : List ℕ) (s t : Strikes) (m n : Machine) → l ≡ k → ls ≡ ks → s ≡ t → n ≡ m → AreDone l ls text s m → AreDone k ks text t n
-moved l k ls ks text s t m n limits same strikes device all =
-    let L : Limits → Type 0 = λ x. AreDone x ls text s m in
-    let B : List Line → Type 0 = λ x. AreDone k x text s m in
-    let S : Strikes → Type 0 = λ x. AreDone k ks text x m in
-    let M : Machine → Type 0 = λ x. AreDone k ks text t x in
-    subst M (sym device) (subst S strikes (subst B same (subst L limits all)))
+pub moved : (l k : Limits) (ls : List Line) (old text : List ℕ) (begins : State → Type 0) (rested : Option Rested) (s t : Strikes) (m n : Machine) → l ≡ k → s ≡ t → n ≡ m → AreDone l ls old text begins rested s m → AreDone k ls old text begins rested t n
+moved l k ls old text begins rested s t m n limits strikes device all =
+    let L : Limits → Type 0 = λ x. AreDone x ls old text begins rested s m in
+    let S : Strikes → Type 0 = λ x. AreDone k ls old text begins rested x m in
+    let M : Machine → Type 0 = λ x. AreDone k ls old text begins rested t x in
+    subst M (sym device) (subst S strikes (subst L limits all))
 
-pub served : (old new : Flash) (ls : List Line) (text : List ℕ) → 256 ≤ old.blocks → length ls ≤ 2 ^ 23 → CanRest new → age_in new.image < 2 ^ 62 → AreDone (limits_of old.blocks) ls text (strikes_of (new_on old)) (resting new) → IsServed ls text old new
-served old new ls text least few rests low all =
-    let blocks : new.blocks ≡ old.blocks = same_blocks new.blocks old.blocks rests.least least all.room in
-    let S : ℕ → Type 0 = λ b. StandsFor b new.image all.end in
-    let numbers = ends_low (limits_of old.blocks) ls all.given all.end all.stores.past all.stores.k few all.are all.stores.stands in
-    let here : StandsFor new.blocks new.image all.end = record {
-      sound = taken new.blocks new.image rests.whole low;
-      past = all.stores.past;
-      k = all.stores.k;
-      stands = all.stores.stands;
-      saved = all.stores.saved;
+-- a mount takes what is left, and its objects stand for a tree with which the life ends
+pub stands_for : (blocks : ℕ) (new : Flash) (old end : State) (ls : List Line) (given : List Answer) → new.blocks ≡ blocks → length ls ≤ 2 ^ 22 → IsYoung (2 ^ 61) old.now → Life (limits_of blocks) old ls given end → whole_in (Some (rested_on new)) → age_in new.image < 2 ^ 62 → Stores (resting new) end → StandsFor blocks new.image end
+stands_for blocks new old end ls given same few young life whole low stores =
+    let S : ℕ → Type 0 = λ b. StandsFor b new.image end in
+    let numbers = stays_low (limits_of blocks) old end ls given few young life stores.past stores.k stores.stands in
+    subst S same (record {
+      sound = taken new.blocks new.image whole low;
+      past = stores.past;
+      k = stores.k;
+      stands = stores.stands;
+      saved = stores.saved;
       few = numbers.0;
       low = numbers.1;
-    } in
+    })
+
+-- lines behind a format
+pub served : (old new : Flash) (ls : List Line) (first text : List ℕ) (begins : State → Type 0) (rested : Option Rested) → 256 ≤ old.blocks → length ls ≤ 2 ^ 22 → HasBlocks new → whole_in (Some (rested_on new)) → age_in new.image < 2 ^ 62 → first ≡ text_of done_first → begins newborn → AreDone (limits_of old.blocks) ls first text begins rested (strikes_of (new_on old)) (resting new) → IsServed ls text old new
+served old new ls first text begins rested least few has whole low is begin all =
+    let blocks : new.blocks ≡ old.blocks = same_blocks new.blocks old.blocks has.least least all.room in
+    let it = all.lives newborn begin newborn_young in
+    let strikes = all.strikes ∙ sym (struck_first (strikes_of (new_on old)) all.given) in
     record {
-      given = all.given;
+      given = done_first ∷ all.given;
       blocks = blocks;
-      answered = record { end = all.end; are = all.are; same = all.same; short = all.short; stands = subst S blocks here };
-      cuts = ap (λ (s : Strikes). s.cuts) all.strikes;
-      faults = ap (λ (s : Strikes). s.faults) all.strikes;
-      planned = all.stores.armed.cuts ∙ ap (λ b. new.cuts + one_if b) (armed_by (limits_of old.blocks) ls all.given all.end all.are);
+      answered = record {
+        end = it.0;
+        are = (refl, it.1);
+        same = all.same ∙ ap (λ t. t ++ texts_of all.given) is;
+        short = all.short;
+        stands = stands_for old.blocks new newborn it.0 ls all.given blocks few newborn_young it.1 whole low it.2;
+      };
+      cuts = ap (λ (s : Strikes). s.cuts) strikes;
+      faults = ap (λ (s : Strikes). s.faults) strikes;
+      planned = it.2.armed.cuts ∙ ap (λ b. new.cuts + one_if b) (armed_by (limits_of old.blocks) ls (done_first ∷ all.given) it.0 (refl, it.1));
     }

@@ -1,5 +1,5 @@
 -- What is left of the ends of a script, and of the answers to lines, where nothing fails.
-use Rattle.std.specs.Prelude.{ℕ, ◌≡◌, ◌≤◌, ◌<◌, ◌^◌, ◌⊎◌, true, List, [], ◌∷◌, length, Ok, Some}
+use Rattle.std.specs.Prelude.{ℕ, ◌≡◌, ◌≤◌, ◌<◌, ◌^◌, ◌⊎◌, true, List, [], ◌∷◌, length, Ok, Some, Option}
 use Rattle.kv_device.specs.Machine.{Machine}
 use Rattle.kfs_path.specs.declared.call.Reply.TheVariants as replies
 use Rattle.kfs_model.specs.declared.Line.{Line}
@@ -18,7 +18,8 @@ use Rattle.kfs_runner.specs.Reading.{script_limit}
 use Rattle.kfs_runner.specs.Numbers.{limits_of}
 use Rattle.kfs_runner.specs.Words.{task_of}
 use Rattle.kfs_runner.specs.Ending.{Side, Sides, IsRun, IsTooMuch, Ends}
-use Rattle.kfs_runner.specs.Seats.{Seated, Bare, SeatGoes, shows_seat, seat_limits, seat_machine}
+use Rattle.kfs_runner.specs.Seats.{Seated, Bare, SeatGoes, IsLow, IsSeatWhole, device_age, shows_seat, seat_limits, seat_machine}
+use Rattle.kfs_runner.specs.Refusals.{Rested, whole_in}
 
 -- ---- a script
 
@@ -62,16 +63,17 @@ EachEndIsComplete =
 -- ---- a line
 
 -- where neither a cut nor a fault is planned for its device, a session or a device without one answers a line that plans
--- nothing as a plain tree does, or memory is wanting, in each state that it shows
+-- nothing as a plain tree does, or memory is wanting, in each state that it shows, where a mount takes what it rests on
 abbrev pub LinesFailUnplannedByMemoryAlone : Type 0
 LinesFailUnplannedByMemoryAlone =
     (old new : Seated) (line : Line) (answer : Answer)
     → SeatGoes old line answer new → is_plain line ≡ true → IsUnplanned (seat_machine old)
-    → (s : State) → shows_seat old s → PlainAnswer (seat_limits old) s.now line answer
+    → (s : State) → shows_seat old s → IsLow s → IsSeatWhole old → device_age old < 2 ^ 62 → PlainAnswer (seat_limits old) s.now line answer
 
 -- a mount of a device that stores the tree after k changes answers k then, or memory is wanting
 abbrev pub MountsFailUnplannedByMemoryAlone : Type 0
 MountsFailUnplannedByMemoryAlone =
-    (m : Machine) (age k : ℕ) (t : Tree) (answer : Answer) (new : Seated)
-    → SeatGoes (Bare m age) lines.Mount answer new → IsUnplanned m → m.cuts < 2 ^ 63 → m.faults < 2 ^ 63 → IsStored m t k
+    (m : Machine) (age k : ℕ) (rested : Option Rested) (t : Tree) (answer : Answer) (new : Seated)
+    → SeatGoes (Bare m age rested) lines.Mount answer new → IsUnplanned m → m.cuts < 2 ^ 63 → m.faults < 2 ^ 63 → IsStored m t k
+    → k < 2 ^ 62 → t.next < 2 ^ 62 → whole_in rested → age < 2 ^ 62
     → (answer ≡ answers.Mounted k) ⊎ (answer ≡ no_memory)

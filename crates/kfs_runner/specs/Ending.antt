@@ -1,10 +1,12 @@
 -- How a run of the program ends.
-use Rattle.std.specs.Prelude.{Some, None, ℕ, ◌≡◌, ◌⊎◌, ◌++◌, nat_lt, if◌then◌else◌, List, [], ◌∷◌, length, codes, Option, Result, Ok, Err, IfSome}
+use Rattle.std.specs.Prelude.{Some, None, ℕ, ◌≡◌, ◌≤◌, ◌⊎◌, ◌++◌, nat_lt, if◌then◌else◌, List, [], ◌∷◌, length, codes, Option, Result, Ok, Err, IfSome}
 use Rattle.kfs_model.specs.declared.Line.{Line}
 use Rattle.kfs_model.specs.declared.Line.TheVariants as lines
 use Rattle.kfs_model.specs.declared.Answer.{Answer}
-use Rattle.kv_nand.specs.Flash.{Image}
-use Rattle.nand_mem.specs.ImageFile.{image_bytes}
+use Rattle.kv_nand.specs.Flash.{Flash, Image}
+use Rattle.nand_mem.specs.ImageFile.{image_bytes, Refuses}
+use Rattle.nand_mem.specs.declared.fault.ImageFault.{ImageFault}
+use Rattle.nand_mem.specs.declared.fault.ImageFault.TheVariants.{Memory as NoMemory}
 use Rattle.kfs_script.specs.Script.{script_of}
 use Rattle.kfs_script.specs.AnswerText.{and_number, newline}
 use Rattle.kfs_runner.specs.declared.ending.Ending.{Ending}
@@ -14,7 +16,7 @@ use Rattle.kfs_runner.specs.declared.words.Task.TheVariants.{Nothing, Run, Make}
 use Rattle.kfs_runner.specs.Outside.{HasRisen, Takes, TakesSome, IsReadOut}
 use Rattle.kfs_runner.specs.Reading.{script_limit}
 use Rattle.kfs_runner.specs.Numbers.{limits_of}
-use Rattle.kfs_runner.specs.Serving.{IsAnswered, Overflows}
+use Rattle.kfs_runner.specs.Serving.{IsAnswered, Overflows, IsServedOn, OverflowsOn}
 use Rattle.kfs_runner.specs.Words.{task_of}
 use Rattle.kfs_runner.specs.Load.{load_text}
 
@@ -27,10 +29,11 @@ abbrev pub side : Option (List ℕ) → ℕ → Side
 side bytes faults = record { bytes = bytes; faults = faults }
 
 -- what words and a script come to: a status with its text, the answers to the lines on a new file
--- system of so many blocks, or the line of a load
+-- system of so many blocks or on the image of the shelf, or the line of a load
 pub data Due : Type 0 where
   Refused : (status : ℕ) (text : List ℕ) → Due
   Answered : (blocks : ℕ) (lines : List Line) → Due
+  OnImage : (lines : List Line) → Due
   Made : (seed : ℕ) (count : ℕ) (blocks : ℕ) → Due
 
 abbrev pub bad_words : List ℕ
@@ -48,15 +51,15 @@ too_long = codes "script too long" ++ newline
 abbrev pub too_much : List ℕ
 too_much = codes "output too long" ++ newline
 
--- there is no image yet, so a script begins with a format
+-- a script that doesn't begin with a format is done on the image of the shelf
 abbrev pub due_by : Result (List Line) ℕ → Due
 due_by (Err number) = Refused 2 (bad_line number)
-due_by (Ok []) = Refused 3 bad_image
+due_by (Ok []) = OnImage []
 due_by (Ok (lines.Format blocks ∷ more)) = Answered blocks more
-due_by (Ok (lines.Mount ∷ more)) = Refused 3 bad_image
-due_by (Ok (lines.Cut n how ∷ more)) = Refused 3 bad_image
-due_by (Ok (lines.Fail kind n ∷ more)) = Refused 3 bad_image
-due_by (Ok (lines.Call call ∷ more)) = Refused 3 bad_image
+due_by (Ok (lines.Mount ∷ more)) = OnImage (lines.Mount ∷ more)
+due_by (Ok (lines.Cut n how ∷ more)) = OnImage (lines.Cut n how ∷ more)
+due_by (Ok (lines.Fail kind n ∷ more)) = OnImage (lines.Fail kind n ∷ more)
+due_by (Ok (lines.Call call ∷ more)) = OnImage (lines.Call call ∷ more)
 
 -- what is asked for comes first, then the script's length, then its lines; a load takes no script
 unfoldable pub due : Task → List ℕ → Due
@@ -84,6 +87,40 @@ pub record IsTooMuch (blocks : ℕ) (ls : List Line) (shelf shelf_new : Side) (s
   pub overflows : Overflows (limits_of blocks) ls all
   pub unput : shelf_new ≡ shelf
 
+-- what the shelf holds is no image file, which is told, and nothing was put
+pub record IsBadImage (shelf shelf_new : Side) (status : ℕ) (text : List ℕ) : Type 0 where
+  pub status_is : status ≡ 3
+  pub text_is : text ≡ bad_image
+  pub fault : ImageFault
+  pub refuses : IfSome shelf.bytes (λ bytes. Refuses bytes fault)
+  pub unput : shelf_new ≡ shelf
+  pub found : fault ≡ NoMemory → ⊥
+
+-- the shelf holds the file of the image of this flash, where it tells what it holds
+pub record IsTaken (shelf : Side) (flash : Flash) : Type 0 where
+  pub file : IfSome shelf.bytes (λ bytes. bytes ≡ image_bytes flash.image flash.blocks)
+  pub least : 256 ≤ flash.blocks
+  pub most : flash.blocks ≤ 2048
+
+-- the text of all answers at status 0 on a flash with the image of the shelf, and its image on the shelf then
+pub record IsRunOn (ls : List Line) (shelf shelf_new : Side) (status : ℕ) (text : List ℕ) : Type 0 where
+  pub status_is : status ≡ 0
+  pub old : Flash
+  pub new : Flash
+  pub taken : IsTaken shelf old
+  pub served : IsServedOn ls text old new
+  pub put : HoldsImage shelf new.blocks new.image shelf_new
+
+-- the answers would be too long, and nothing was put
+pub record IsTooMuchOn (ls : List Line) (shelf shelf_new : Side) (status : ℕ) (text : List ℕ) : Type 0 where
+  pub status_is : status ≡ 9
+  pub text_is : text ≡ too_much
+  pub old : Flash
+  pub taken : IsTaken shelf old
+  pub all : List ℕ
+  pub overflows : OverflowsOn old ls all
+  pub unput : shelf_new ≡ shelf
+
 -- a shelf and a source
 pub record Sides : Type 0 where
   pub shelf : Side
@@ -100,6 +137,9 @@ IsDue (Made seed count blocks) old new status text = (status ≡ 0) × (text ≡
 IsDue (Answered blocks ls) old new status text =
     IsReadOut old.source.bytes new.source.bytes
     × (IsRun blocks ls old.shelf new.shelf status text ⊎ IsTooMuch blocks ls old.shelf new.shelf status text)
+IsDue (OnImage ls) old new status text =
+    IsReadOut old.source.bytes new.source.bytes
+    × (IsBadImage old.shelf new.shelf status text ⊎ (IsRunOn ls old.shelf new.shelf status text ⊎ IsTooMuchOn ls old.shelf new.shelf status text))
 
 -- a run that writes nothing: the source failed (4) and so the script that is asked for was not read, or
 -- memory was wanting (7), and nothing was put; or the shelf failed (6)

@@ -8,18 +8,15 @@ use Rattle.kfs_core.specs.declared.fault.HostFault.{HostFault}
 use Rattle.kfs_core.specs.declared.fault.HostFault.TheVariants as host
 use Rattle.kv_device.specs.Machine.{Machine, fresh}
 use Rattle.kssd_layout.specs.Numbers.{max_keys_in, max_pages_in}
-use Rattle.kssd_image.specs.Whole.{IsWhole}
-use Rattle.kssd_image.proofs.Props.{IsWhole-prop}
 
--- a mount takes the image of 256 to 2,048 blocks, the limit on its numbers apart
-pub record CanRest (flash : Flash) : Type 0 where
+-- 256 to 2,048 blocks
+pub record HasBlocks (flash : Flash) : Type 0 where
   pub least : 256 ≤ flash.blocks
   pub most : flash.blocks ≤ 2048
-  pub whole : IsWhole flash.blocks flash.image
 
 -- there is at most one proof of it
-pub CanRest-prop : (flash : Flash) → IsProp (CanRest flash)
-CanRest-prop flash = Prim.hlevel (props, IsWhole-prop)
+pub HasBlocks-prop : (flash : Flash) → IsProp (HasBlocks flash)
+HasBlocks-prop flash = Prim.hlevel props
 
 -- why a device isn't mounted, as a mount of a session tells it
 abbrev pub host_fault : MountFault → HostFault

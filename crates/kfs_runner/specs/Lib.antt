@@ -7,6 +7,8 @@ pub mod Serving
 pub mod Ending
 pub mod Lines
 pub mod Strikes
+pub mod Refusals
+pub mod Young
 pub mod Stores
 pub mod Flashes
 pub mod Seats

@@ -9,4 +9,4 @@ limits_of blocks = record { keys = max_keys_in blocks; pages = max_pages_in bloc
 
 -- by how much a line may raise the greatest number that a device has written
 abbrev pub line_age : ℕ
-line_age = 2 ^ 38 + 2 ^ 20
+line_age = 2 ^ 38 + 2 ^ 21

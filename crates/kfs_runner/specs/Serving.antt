@@ -1,5 +1,5 @@
 -- What doing the lines of a script on a flash gives.
-use Rattle.std.specs.Prelude.{ℕ, ◌≡◌, ◌≤◌, ◌<◌, ◌+◌, ◌++◌, ◌==◌, ◌^◌, Bool, true, false, List, [], ◌∷◌, length, take, drop}
+use Rattle.std.specs.Prelude.{Option, ℕ, ◌≡◌, ◌≤◌, ◌<◌, ◌+◌, ◌++◌, ◌==◌, ◌^◌, Bool, true, false, List, [], ◌∷◌, length, take, drop}
 use Rattle.std.specs.List.{count_by}
 use Rattle.kv_nand.specs.Flash.{Flash, Image}
 use Rattle.kfs_path.specs.declared.call.Reply.TheVariants as replies
@@ -7,18 +7,23 @@ use Rattle.kfs_model.specs.declared.Line.{Line}
 use Rattle.kfs_model.specs.declared.Line.TheVariants as lines
 use Rattle.kfs_model.specs.declared.Answer.{Answer}
 use Rattle.kfs_model.specs.declared.Answer.TheVariants as answers
-use Rattle.kfs_model.specs.Life.{State, Life, Past, tree_at, newborn}
+use Rattle.kfs_model.specs.Life.{State, Life, Down, Past, tree_at, newborn}
 use Rattle.kfs_script.specs.AnswerText.{texts_of}
 use Rattle.kfs_posix.specs.Showing.{IsSaved, one_if}
 use Rattle.kssd_image.specs.Stages.{objects_in}
-use Rattle.kssd_image.specs.Whole.{Sound}
+use Rattle.kssd_image.specs.Whole.{Sound, age_in}
+use Rattle.kssd_image.specs.Damages.{IsDamage}
+use Rattle.kv_base.specs.declared.damage.Damage.{Damage}
+use Rattle.kfs_damages.specs.Laws.{StandFor}
 use Rattle.kfs_runner.specs.declared.serving.ServeFault.{ServeFault}
 use Rattle.kfs_runner.specs.declared.serving.ServeFault.TheVariants.{TooLong, Memory}
 use Rattle.kfs_runner.specs.Numbers.{limits_of}
 use Rattle.kfs_posix.specs.Mounting.{limits_in}
-use Rattle.kfs_model.specs.Tree.{Limits}
+use Rattle.kfs_model.specs.Tree.{Tree, Limits}
 use Rattle.kv_device.specs.Machine.{Machine}
 use Rattle.kfs_runner.specs.Seats.{StandsAt, Stores}
+use Rattle.kfs_runner.specs.Refusals.{Rested, AnswerDamage}
+use Rattle.kfs_runner.specs.Lines.{AreLives, AreRefusals, OverflowsFrom}
 use Rattle.kfs_runner.specs.Strikes.{Strikes, strikes_of, struck_by, is_cut, is_failure, is_cut_planned}
 
 -- the most bytes of the text of the answers
@@ -31,9 +36,17 @@ formats blocks [] = false
 formats blocks (lines.Format wanted ∷ more) = wanted == blocks
 formats blocks (line ∷ more) = false
 
--- power is on, and no cut and no fault is planned
+-- the first line formats a device
+abbrev pub formats_first : List Line → Bool
+formats_first [] = false
+formats_first (lines.Format wanted ∷ more) = true
+formats_first (lines.Mount ∷ more) = false
+formats_first (lines.Cut n how ∷ more) = false
+formats_first (lines.Fail kind n ∷ more) = false
+formats_first (lines.Call call ∷ more) = false
+
+-- no cut and no fault is planned
 pub record IsUnplanned (flash : Flash) : Type 0 where
-  pub powered : flash.powered ≡ true
   pub cuts : flash.most_cuts ≡ flash.cuts
   pub faults : flash.most_faults ≡ flash.faults
   pub few_cuts : flash.cuts ≤ 2 ^ 62
@@ -77,15 +90,14 @@ pub record Overflows (limits : Limits) (ls : List Line) (text : List ℕ) : Type
   pub below : length (texts_of given) ≤ output_limit
   pub above : output_limit < length text
 
--- the lines behind a format were done on a device that rests now: their answers, each cut and each fault
--- told by one, and a tree with which their life ends is stored
-pub record AreDone (limits : Limits) (ls : List Line) (text : List ℕ) (before : Strikes) (device : Machine) : Type 0 where
+-- lines were done on a device that rests now: their answers, each cut and each fault told by one; they are lives from what was shown,
+-- with a tree with which they end stored, and refusals of what was damaged
+pub record AreDone (limits : Limits) (ls : List Line) (old text : List ℕ) (begins : State → Type 0) (rested : Option Rested) (before : Strikes) (device : Machine) : Type 0 where
   pub given : List Answer
-  pub end : State
-  pub are : AreAnswers limits ls given end
-  pub same : text ≡ texts_of given
+  pub same : text ≡ old ++ texts_of given
   pub short : length text ≤ output_limit
-  pub stores : Stores device end
+  pub lives : AreLives limits ls given begins (Stores device)
+  pub damaged : AreRefusals ls given rested
   pub room : limits_in device ≡ limits
   pub strikes : strikes_of device ≡ struck_by before given
 
@@ -98,6 +110,51 @@ pub record IsServed (ls : List Line) (text : List ℕ) (old new : Flash) : Type 
   pub cuts : new.cuts ≡ old.cuts + count_by is_cut given
   pub faults : new.faults ≡ old.faults + count_by is_failure given
   pub planned : new.most_cuts ≡ new.cuts + one_if (is_cut_planned ls (drop 1 given))
+
+-- an image from which a life begins: a mount takes it, and its objects stand for this tree with this number, and its numbers are below `2 ^ 61`
+pub record IsHonest (blocks : ℕ) (image : Image) (t : Tree) (k : ℕ) : Type 0 where
+  pub sound : Sound blocks image
+  pub stands : StandFor (limits_of blocks) (objects_in image) t k
+  pub age : age_in image < 2 ^ 61
+  pub few : k < 2 ^ 61
+  pub low : t.next < 2 ^ 61
+
+-- a life of this tree that is down
+abbrev pub rests_at : Tree → ℕ → State
+rests_at t k = record { now = Down (record { count = k; trees = t ∷ [] }) (k ∷ []); cut_armed = false; fail_armed = false }
+
+-- lines were done on a flash with an image that was taken: their answers, and each cut and each fault of the flash told by one. An honest image begins a
+-- life that is down, and the flash holds a tree with which it ends. A damaged image is refused by each mount, and stays
+pub record IsServedOn (ls : List Line) (text : List ℕ) (old new : Flash) : Type 0 where
+  pub given : List Answer
+  pub blocks : new.blocks ≡ old.blocks
+  pub same : text ≡ texts_of given
+  pub short : length text ≤ output_limit
+  pub cuts : new.cuts ≡ old.cuts + count_by is_cut given
+  pub faults : new.faults ≡ old.faults + count_by is_failure given
+  pub honest : (t : Tree) (k : ℕ) → IsHonest old.blocks old.image t k → (end : State) × Life (limits_of old.blocks) (rests_at t k) ls given end × StandsFor old.blocks new.image end × (new.most_cuts ≡ new.cuts + one_if (is_cut_planned ls given))
+  pub damaged : (damage : Damage) → IsDamage old.blocks old.image damage → AnswerDamage damage ls given × (new.image ≡ old.image)
+
+-- the text of the answers to the first lines likewise, of which the last brings it above the limit
+pub record OverflowsOn (old : Flash) (ls : List Line) (text : List ℕ) : Type 0 where
+  pub count : ℕ
+  pub given : List Answer
+  pub last : Answer
+  pub some : count ≤ length ls
+  pub same : text ≡ texts_of (given ++ last ∷ [])
+  pub below : length (texts_of given) ≤ output_limit
+  pub above : output_limit < length text
+  pub honest : (t : Tree) (k : ℕ) → IsHonest old.blocks old.image t k → (end : State) × Life (limits_of old.blocks) (rests_at t k) (take count ls) (given ++ last ∷ []) end
+  pub damaged : (damage : Damage) → IsDamage old.blocks old.image damage → AnswerDamage damage (take count ls) (given ++ last ∷ [])
+
+abbrev pub StopsOn : Flash → List Line → ServeFault → Type 0
+StopsOn old ls (TooLong text) = OverflowsOn old ls text
+StopsOn old ls Memory = Unit {0}
+
+-- lines were not all answered behind a text, which they brought above the limit, or memory was wanting
+abbrev pub StopsBehind : Limits → List Line → List ℕ → (State → Type 0) → Option Rested → ServeFault → Type 0
+StopsBehind limits ls old begins rested (TooLong text) = OverflowsFrom limits ls output_limit old text begins rested
+StopsBehind limits ls old begins rested Memory = Unit {0}
 
 -- an answer brought the text above the limit, or memory was wanting
 abbrev pub StopsServing : Limits → List Line → ServeFault → Type 0

@@ -1,10 +1,11 @@
 // What a device on flash rests on while no session is up: the flash.
-ghost use Rattle.std.specs.Prelude.{◌≡◌, ◌≤◌, true, IfOk, IfErr};
+ghost use Rattle.std.specs.Prelude.{◌≡◌, ◌≤◌, true, Some, IfOk, IfErr};
 ghost use Rattle.kv_device.specs.Machine.{down, none_open};
 ghost use Rattle.kssd_image.specs.Whole.{age_in};
 ghost use Rattle.kssd_machine.specs.Machines.{resting};
 ghost use Rattle.kssd_engine.specs.Plans.{asked_by};
-ghost use Rattle.kfs_runner.specs.Flashes.{CanRest, CanRest-prop, host_fault};
+ghost use Rattle.kfs_runner.specs.Flashes.{HasBlocks, HasBlocks-prop, host_fault};
+ghost use Rattle.kfs_runner.specs.Refusals.{rested_on, whole_in};
 
 use crate::store::Store;
 use kfs_cache::Cached;
@@ -14,11 +15,11 @@ use kv_device::Device;
 use kv_nand::{MountFault, PlannedNand};
 use std::alloc::Global;
 
-/// A flash with an image that a mount takes, up to the limit on its numbers.
+/// A flash of 256 to 2,048 blocks.
 #[derive(Drop)]
 pub struct Resting<N: PlannedNand> {
     nand: N,
-    ghost whole: { CanRest (N.flash nand) } by { CanRest-prop (N.flash nand) },
+    ghost blocks: { HasBlocks (N.flash nand) } by { HasBlocks-prop (N.flash nand) },
 }
 
 // How many values a device keeps in memory.
@@ -46,6 +47,7 @@ pub fn with_cache<N: PlannedNand + Drop>(
     ensures ok { IfOk result (λ cached. ⟦<Cached<Ssd<N>> as Device>⟧.machine cached ≡ ⟦<Ssd<N> as Device>⟧.machine device) }
     ensures age { IfOk result (λ cached. ⟦<Cached<Ssd<N>> as Device>⟧.age cached ≡ ⟦<Ssd<N> as Device>⟧.age device) }
     ensures err { IfErr result (λ store. ⟦<Resting<N> as Store>⟧.machine store ≡ down (⟦<Ssd<N> as Device>⟧.machine device)) }
+    ensures whole { IfErr result (λ store. whole_in (⟦<Resting<N> as Store>⟧.rested store)) }
     ensures age_left { IfErr result (λ store. ⟦<Resting<N> as Store>⟧.age store ≤ ⟦<Ssd<N> as Device>⟧.age device) }
 {
     match Cached::new(alloc, device, CACHED_VALUES) {
@@ -57,11 +59,22 @@ pub fn with_cache<N: PlannedNand + Drop>(
 }
 
 impl<N: PlannedNand + Drop> Resting<N> {
+    /// A flash on which no device is mounted yet.
+    pub fn new(nand: N) -> Resting<N>
+        requires { (256 ≤ (N.flash nand).blocks) × ((N.flash nand).blocks ≤ 2048) }
+        ensures rests { ⟦<Resting<N> as Store>⟧.machine result ≡ resting (N.flash nand) }
+        ensures age { ⟦<Resting<N> as Store>⟧.age result ≡ age_in (N.flash nand).image }
+        ensures rested { ⟦<Resting<N> as Store>⟧.rested result ≡ Some (rested_on (N.flash nand)) }
+    {
+        Resting { nand }
+    }
+
     /// The flash.
     pub fn into_nand(self) -> N
         ensures rests { resting (N.flash result) ≡ ⟦<Resting<N> as Store>⟧.machine self }
         ensures age { age_in (N.flash result).image ≡ ⟦<Resting<N> as Store>⟧.age self }
-        ensures whole { CanRest (N.flash result) }
+        ensures blocks { HasBlocks (N.flash result) }
+        ensures rested { Some (rested_on (N.flash result)) ≡ ⟦<Resting<N> as Store>⟧.rested self }
         ensures asked { asked_by (N.planned result) 0 ≡ ⟦<Resting<N> as Store>⟧.asked self }
     {
         self.nand
@@ -76,6 +89,8 @@ impl<N: PlannedNand + Drop> Store for Resting<N> {
     ghost age = { λ store. age_in (N.flash store.nand).image };
 
     ghost asked = { λ store. asked_by (N.planned store.nand) 0 };
+
+    ghost rested = { λ store. Some (rested_on (N.flash store.nand)) };
 
     fn wake(self, alloc: Global) -> Result<Cached<Ssd<N>>, (Resting<N>, HostFault)> {
         let mut nand = self.nand;

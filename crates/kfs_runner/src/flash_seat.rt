@@ -58,9 +58,11 @@ pub fn format_flash<N: PlannedNand + Drop>(
     requires blocks { (256 ≤ (N.flash nand).blocks) × ((N.flash nand).blocks ≤ 2048) }
     requires unplanned { IsUnplanned (N.flash nand) }
     ensures shows { IfOk result (λ seat. ⟦<Seat<Resting<N>> as Host>⟧.shows seat newborn) }
+    ensures known { IfOk result (λ seat. ⟦<Seat<Resting<N>> as Host>⟧.known seat) }
+    ensures whole { IfOk result (λ seat. ⟦<Seat<Resting<N>> as Host>⟧.whole seat) }
     ensures limits { IfOk result (λ seat. ⟦<Seat<Resting<N>> as Host>⟧.limits seat ≡ limits_of (N.flash nand).blocks) }
     ensures age { IfOk result (λ seat. ⟦<Seat<Resting<N>> as Host>⟧.age seat ≤ 2 ^ 62) }
-    ensures device_age { IfOk result (λ seat. ⟦<Seat<Resting<N>> as Host>⟧.device_age seat ≤ 2 ^ 60) }
+    ensures device_age { IfOk result (λ seat. ⟦<Seat<Resting<N>> as Host>⟧.device_age seat ≤ 2 ^ 61) }
     ensures strikes { IfOk result (λ seat. ⟦<Seat<Resting<N>> as Host>⟧.strikes seat ≡ strikes_of (new_on (N.flash nand))) }
 {
     let mut device = new_cached(alloc, nand)?;

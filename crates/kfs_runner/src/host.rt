@@ -1,10 +1,13 @@
 // What the lines of a script are done on.
-ghost use Rattle.std.specs.Prelude.{◌≡◌, ◌≤◌, ◌<◌, ◌+◌, ◌-◌, ◌^◌, ℕ, false, max};
+ghost use Rattle.std.specs.Prelude.{◌≡◌, ◌≤◌, ◌<◌, ◌+◌, ◌-◌, ◌^◌, ℕ, Option, false, max};
+ghost use Rattle.kv_base.specs.declared.damage.Damage.{Damage};
 ghost use Rattle.kv_device.specs.Asked.{Asked};
 ghost use Rattle.kfs_model.specs.Tree.{Limits};
 ghost use Rattle.kfs_model.specs.Life.{State, Event};
 ghost use Rattle.kfs_script.specs.Script.{IsLine, is_format};
 ghost use Rattle.kfs_runner.specs.Asks.{LineAsks};
+ghost use Rattle.kfs_runner.specs.Refusals.{Rested, damaged_in, AnswersDamage};
+ghost use Rattle.kfs_runner.specs.Seats.{IsLow};
 ghost use Rattle.kfs_runner.specs.Strikes.{Strikes, struck};
 ghost use Rattle.kfs_runner.specs.Numbers.{line_age};
 
@@ -15,6 +18,15 @@ use std::alloc::Global;
 pub trait Host: Drop {
     /// The states of a life that it shows.
     ghost shows: { Self → State → Type 0 };
+
+    /// What is known of it whatever its device stores.
+    ghost known: { Self → Type 0 };
+
+    /// A mount takes what it rests on, up to the limit on its numbers.
+    ghost whole: { Self → Type 0 };
+
+    /// The image that it rests on while there is no session.
+    ghost rested: { Self → Option Rested };
 
     /// How much it holds.
     ghost limits: { Self → Limits };
@@ -35,12 +47,15 @@ pub trait Host: Drop {
     fn answer(self, alloc: Global, line: &Line) -> (Self, Answer)
         requires line { IsLine line.now }
         requires format { is_format line.now ≡ false }
-        requires shown { (s : State) × shows self s }
+        requires known { known self }
         requires room { (limits self).keys ≤ 68544 }
         requires age { age self < 2 ^ 63 - 2 ^ 40 }
-        requires device_age { device_age self < 2 ^ 62 }
-        ensures goes_on { (s : State) → shows self s → (t : State) × Event (limits self) s line.now result.1 t × shows result.0 t
-            × (limits result.0 ≡ limits self) × (age result.0 ≤ max (age self) (2 ^ 62) + line_age) }
+        ensures known { known result.0 }
+        ensures goes_on { (s : State) → shows self s → IsLow s → whole self → device_age self < 2 ^ 62 → (t : State) × Event (limits self) s line.now result.1 t × shows result.0 t }
+        ensures whole { whole self → device_age self < 2 ^ 62 → whole result.0 }
+        ensures damaged { (damage : Damage) → damaged_in (rested self) damage → AnswersDamage damage line.now result.1 × (rested result.0 ≡ rested self) }
+        ensures limits { limits result.0 ≡ limits self }
+        ensures age { age result.0 ≤ max (age self) (2 ^ 62) + line_age }
         ensures device_age { device_age result.0 ≤ device_age self + line_age }
         ensures strikes { strikes result.0 ≡ struck (strikes self) result.1 }
         ensures asks { LineAsks line.now result.1 (asked self) (asked result.0) };

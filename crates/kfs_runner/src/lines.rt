@@ -1,9 +1,10 @@
 // Lines of a script, each with its answer.
 ghost use Rattle.std.specs.Prelude.{◌≡◌, ◌≤◌, ◌++◌, ◌^◌, List, length, IfOk, ◌<◌, IfErr, All, false};
 ghost use Rattle.kfs_script.specs.AnswerText.{texts_of};
-ghost use Rattle.kfs_model.specs.Life.{State, newborn};
+ghost use Rattle.kv_base.specs.declared.damage.Damage.{Damage};
 ghost use Rattle.kfs_script.specs.Script.{IsLine, is_format};
 ghost use Rattle.kfs_runner.specs.Asks.{IsLastPlanned};
+ghost use Rattle.kfs_runner.specs.Refusals.{damaged_in};
 ghost use Rattle.kfs_runner.specs.Lines.{AnsweredFrom, OverflowsFrom};
 ghost use Rattle.kfs_runner.specs.declared.lines.Unanswered.TheVariants.{TooLong, Memory as NoMemory};
 
@@ -38,19 +39,21 @@ pub fn answer_all<H: Host>(
     most: usize,
     text: &mut Text,
 ) -> Result<H, Unanswered>
-    requires shows { H.shows host newborn }
+    requires known { H.known host }
     requires age { H.age host ≤ 2 ^ 62 }
-    requires device_age { H.device_age host ≤ 2 ^ 60 }
-    requires few { length lines.now ≤ 2 ^ 23 }
+    requires few { length lines.now ≤ 2 ^ 22 }
     requires lines { All IsLine lines.now }
     requires formats { All (λ line. is_format line ≡ false) lines.now }
     requires room { (H.limits host).keys ≤ 68544 }
     requires short { length text.old ≤ most }
-    ensures ok { IfOk result (λ left. AnsweredFrom (H.limits host) lines.now most text.old text.new (H.shows left) (H.strikes host) (H.strikes left)) }
+    ensures ok { IfOk result (λ left. AnsweredFrom (H.limits host) lines.now most text.old text.new (λ s. H.shows host s × H.whole host × (H.device_age host ≤ 2 ^ 61)) (H.shows left) (H.rested host) (H.strikes host) (H.strikes left)) }
+    ensures known { IfOk result (λ left. H.known left) }
+    ensures whole { IfOk result (λ left. H.whole host → H.device_age host ≤ 2 ^ 61 → H.whole left) }
+    ensures stays { IfOk result (λ left. (damage : Damage) → damaged_in (H.rested host) damage → H.rested left ≡ H.rested host) }
     ensures planned { IfOk result (λ left. IsLastPlanned lines.now (H.asked left)) }
     ensures limits { IfOk result (λ left. H.limits left ≡ H.limits host) }
-    ensures device_age { IfOk result (λ left. H.device_age left < 2 ^ 62) }
-    ensures long { IfErr result (λ e. e ≡ TooLong → OverflowsFrom (H.limits host) lines.now most text.old text.new) }
+    ensures device_age { IfOk result (λ left. H.device_age host ≤ 2 ^ 61 → H.device_age left < 2 ^ 62) }
+    ensures long { IfErr result (λ e. e ≡ TooLong → OverflowsFrom (H.limits host) lines.now most text.old text.new (λ s. H.shows host s × H.whole host × (H.device_age host ≤ 2 ^ 61)) (H.rested host)) }
 {
     let mut host = host;
     for line in lines {

@@ -4,7 +4,7 @@ ghost use Rattle.kfs_model.specs.Life.{newborn};
 ghost use Rattle.kfs_script.specs.AnswerText.{and_number};
 ghost use Rattle.kfs_load.specs.Coming.{first_live};
 ghost use Rattle.kfs_load.specs.Generator.{IsLoadRest};
-ghost use Rattle.kfs_runner.specs.Seats.{seated, shows_seat, seat_limits, seat_age, device_age};
+ghost use Rattle.kfs_runner.specs.Seats.{Known, IsSeatWhole, seated, shows_seat, seat_limits, seat_age, device_age};
 ghost use Rattle.kfs_runner.specs.Load.{numbers_text, load_text};
 ghost use Rattle.kfs_runner.specs.Counts.{Counts, CountsReply, plain_behind, IsCounted};
 
@@ -88,13 +88,15 @@ fn run_lines<S: Store>(
     plain: PlainTree,
     lines: &[Line],
 ) -> Result<(Tally, Totals), Memory>
-    requires shows { shows_seat (seated S.machine S.age seat) newborn }
-    requires age { seat_age (seated S.machine S.age seat) ≤ 2 ^ 62 }
-    requires device_age { device_age (seated S.machine S.age seat) ≤ 2 ^ 60 }
-    requires room { (seat_limits (seated S.machine S.age seat)).keys ≤ 68544 }
-    requires plain { plain ≡ record { world = first_live.world; limits = seat_limits (seated S.machine S.age seat) } }
+    requires known { Known (seated S.machine S.age S.rested seat) }
+    requires whole { IsSeatWhole (seated S.machine S.age S.rested seat) }
+    requires shows { shows_seat (seated S.machine S.age S.rested seat) newborn }
+    requires age { seat_age (seated S.machine S.age S.rested seat) ≤ 2 ^ 62 }
+    requires device_age { device_age (seated S.machine S.age S.rested seat) ≤ 2 ^ 60 }
+    requires room { (seat_limits (seated S.machine S.age S.rested seat)).keys ≤ 68544 }
+    requires plain { plain ≡ record { world = first_live.world; limits = seat_limits (seated S.machine S.age S.rested seat) } }
     requires load { IsLoadRest lines.now }
-    ensures counted { IfOk result (λ r. IsCounted (seat_limits (seated S.machine S.age seat)) lines.now r.0 r.1) }
+    ensures counted { IfOk result (λ r. IsCounted (seat_limits (seated S.machine S.age S.rested seat)) lines.now r.0 r.1) }
     ensures few { IfOk result (λ r. r.0.dones + r.0.errors < 2 ^ 32) }
 {
     let mut seat = seat;

@@ -16,6 +16,8 @@ pub fn format_map(alloc: Global, blocks: u16) -> Result<Seat<MapDevice>, Memory>
     requires fewest { 256 ≤ blocks }
     requires most { blocks ≤ 2048 }
     ensures shows { IfOk result (λ seat. ⟦<Seat<MapDevice> as Host>⟧.shows seat newborn) }
+    ensures known { IfOk result (λ seat. ⟦<Seat<MapDevice> as Host>⟧.known seat) }
+    ensures whole { IfOk result (λ seat. ⟦<Seat<MapDevice> as Host>⟧.whole seat) }
     ensures limits { IfOk result (λ seat. ⟦<Seat<MapDevice> as Host>⟧.limits seat ≡ limits_of blocks) }
     ensures age { IfOk result (λ seat. ⟦<Seat<MapDevice> as Host>⟧.age seat ≤ 2 ^ 62) }
     ensures device_age { IfOk result (λ seat. ⟦<Seat<MapDevice> as Host>⟧.device_age seat ≤ 2 ^ 60) }

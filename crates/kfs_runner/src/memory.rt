@@ -1,6 +1,6 @@
 // A shelf, a source and a sink in memory, which fail where they were told to.
 ghost use Rattle.std.specs.Prelude.{◌≡◌, ◌≤◌, IfOk, IfErr, OnOk, OnErr, Some, [], min, length, take, vec_len, vec_capacity};
-ghost use Rattle.kfs_runner.specs.declared.outside.OutsideFault.TheVariants.{Failed};
+ghost use Rattle.kfs_runner.specs.declared.outside.OutsideFault.TheVariants.{Failed, Memory as NoMemory};
 
 use crate::outside::{OutsideFault, Shelf, Sink, Source};
 use kv_base::Memory;
@@ -109,6 +109,7 @@ impl Shelf for MemShelf {
         ensures ok { IfOk result (λ bytes. bytes.items ≡ (shelf_of self.old).bytes) }
         ensures allowed { OnOk result (is_struck (shelf_of self.old).plan ≡ false) }
         ensures struck { IfErr result (λ fault. fault ≡ Failed → is_struck (shelf_of self.old).plan ≡ true) }
+        ensures wanting { IfErr result (λ fault. fault ≡ NoMemory → self.new.failing.faults ≡ self.old.failing.faults) }
         ensures after { shelf_of self.new ≡ after_take (shelf_of self.old) }
     {
         self.failing.begin()?;

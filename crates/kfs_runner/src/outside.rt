@@ -2,7 +2,7 @@
 // the answers.
 ghost use Rattle.std.specs.Prelude.{◌≡◌, ◌≤◌, ◌<◌, ◌⊎◌, ℕ, List, Option, Some, take, length, IfOk, IfErr, OnOk, OnErr, IfSome};
 ghost use Rattle.kfs_runner.specs.Outside.{HasRisen, Gives, IsAtEnd, Takes};
-ghost use Rattle.kfs_runner.specs.declared.outside.OutsideFault.TheVariants.{Failed};
+ghost use Rattle.kfs_runner.specs.declared.outside.OutsideFault.TheVariants.{Failed, Memory as NoMemory};
 
 use kv_base::Memory;
 use std::alloc::{AllocError, Global};
@@ -29,6 +29,7 @@ pub trait Shelf {
         ensures ok { IfOk result (λ bytes. IfSome (held self.old) (λ all. bytes.items ≡ all)) }
         ensures held { held self.new ≡ held self.old }
         ensures steady { OnOk result (faults self.new ≡ faults self.old) }
+        ensures wanting { IfErr result (λ fault. fault ≡ NoMemory → faults self.new ≡ faults self.old) }
         ensures failed { IfErr result (λ fault. fault ≡ Failed → HasRisen (faults self.old) (faults self.new)) };
 
     /// Keeps these bytes in the place of the old ones. A put that fails leaves what it leaves.
@@ -81,8 +82,6 @@ pub trait Sink {
 
 impl From<AllocError> for OutsideFault {
     ghost from_gives = { λ _ e. e ≡ NoMemory };
-
-    ghost use Rattle.kfs_runner.specs.declared.outside.OutsideFault.TheVariants.{Memory as NoMemory};
 
     fn from(_: AllocError) -> Self {
         OutsideFault::Memory

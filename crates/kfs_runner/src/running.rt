@@ -1,12 +1,12 @@
 // Scripts from their bytes to what they come to.
-ghost use Rattle.std.specs.Prelude.{◌≡◌, ◌≤◌, ◌∷◌, length, Ok, IfSome, IfErr, OnOk, true};
+ghost use Rattle.std.specs.Prelude.{◌≡◌, ◌≤◌, ◌∷◌, length, Ok, IfSome, IfErr, OnOk, true, false};
 ghost use Rattle.kfs_script.specs.Script.{script_of, IsScript};
 ghost use Rattle.kfs_model.specs.declared.Line.TheVariants as formats;
 ghost use Rattle.nand_mem.specs.MemNand.{mem};
 ghost use Rattle.kfs_runner.specs.declared.outside.OutsideFault.TheVariants.{Failed, Memory as NoMemory};
 ghost use Rattle.kfs_runner.specs.Outside.{HasRisen};
-ghost use Rattle.kfs_runner.specs.Serving.{formats};
-ghost use Rattle.kfs_runner.specs.Ending.{ComesTo, LeavesAlone, side, sides, TaskComesTo, HoldsImage, IsLoadDue, IsScriptDue};
+ghost use Rattle.kfs_runner.specs.Serving.{formats, formats_first, IsUnplanned};
+ghost use Rattle.kfs_runner.specs.Ending.{ComesTo, LeavesAlone, side, sides, TaskComesTo, HoldsImage, IsTaken, IsLoadDue, IsScriptDue};
 
 use crate::ending::{Ending, NO_MEMORY, line_refused, refused};
 use crate::load::load_line;
@@ -16,7 +16,7 @@ use crate::serving::{ServeFault, serve};
 use crate::words::{Task, task_of};
 use kfs_script::{Line, Script, ScriptFault, read_script};
 use kv_base::Text;
-use nand_mem::MemNand;
+use nand_mem::{ImageFault, MemNand};
 use std::alloc::Global;
 
 /// What the words come to, with the script of a source where they ask for one. The image of its
@@ -87,12 +87,12 @@ fn run_script<H: Shelf>(alloc: Global, bytes: &[u8], shelf: &mut H) -> Ending
 
 // What the lines of a script come to.
 fn run_lines<H: Shelf>(alloc: Global, script: &Script, shelf: &mut H) -> Ending
-    requires few { length script.now ≤ 8388608 }
+    requires few { length script.now ≤ 4194304 }
     ensures { IsScriptDue (Ok script.now) (side (H.held shelf.old) (H.faults shelf.old)) (side (H.held shelf.new) (H.faults shelf.new)) result }
 {
     match script.lines().first() {
         Some(Line::Format(blocks)) => run_formatted(alloc, *blocks, script, shelf),
-        _ => refused(alloc, 3, b"bad image\n"),
+        _ => run_taken(alloc, script, shelf),
     }
 }
 
@@ -100,13 +100,59 @@ fn run_lines<H: Shelf>(alloc: Global, script: &Script, shelf: &mut H) -> Ending
 fn run_formatted<H: Shelf>(alloc: Global, blocks: u16, script: &Script, shelf: &mut H) -> Ending
     requires fewest { 256 ≤ blocks }
     requires most { blocks ≤ 2048 }
-    requires few { length script.now ≤ 8388608 }
+    requires few { length script.now ≤ 4194304 }
     requires formats { formats blocks script.now ≡ true }
     ensures { IsScriptDue (Ok script.now) (side (H.held shelf.old) (H.faults shelf.old)) (side (H.held shelf.new) (H.faults shelf.new)) result }
 {
     let Ok(nand) = MemNand::fresh(alloc, blocks) else {
         return Ending::Quiet(NO_MEMORY);
     };
+    match serve(alloc, nand, script) {
+        Ok(served) => match put_image(alloc, &served.nand, shelf) {
+            Ok(()) => Ending::Prints(0, served.text),
+            Err(OutsideFault::Failed) => Ending::Quiet(6),
+            Err(OutsideFault::Memory) => Ending::Quiet(NO_MEMORY),
+        },
+        Err(ServeFault::TooLong(_)) => refused(alloc, 9, b"output too long\n"),
+        Err(ServeFault::Memory) => Ending::Quiet(NO_MEMORY),
+    }
+}
+
+// What the lines come to on the image that the shelf holds.
+fn run_taken<H: Shelf>(alloc: Global, script: &Script, shelf: &mut H) -> Ending
+    requires few { length script.now ≤ 4194304 }
+    requires image { formats_first script.now ≡ false }
+    ensures { IsScriptDue (Ok script.now) (side (H.held shelf.old) (H.faults shelf.old)) (side (H.held shelf.new) (H.faults shelf.new)) result }
+{
+    match shelf.take(alloc) {
+        Ok(bytes) => run_image(alloc, bytes.as_slice(), script, shelf),
+        Err(OutsideFault::Failed) => Ending::Quiet(6),
+        Err(OutsideFault::Memory) => Ending::Quiet(NO_MEMORY),
+    }
+}
+
+// What the lines come to on the image of a file.
+fn run_image<H: Shelf>(alloc: Global, bytes: &[u8], script: &Script, shelf: &mut H) -> Ending
+    requires few { length script.now ≤ 4194304 }
+    requires image { formats_first script.now ≡ false }
+    requires taken { IfSome (H.held shelf.old) (λ all. bytes.now ≡ all) }
+    ensures { IsScriptDue (Ok script.now) (side (H.held shelf.old) (H.faults shelf.old)) (side (H.held shelf.new) (H.faults shelf.new)) result }
+{
+    match MemNand::from_image(alloc, bytes) {
+        Ok(nand) => run_on(alloc, nand, script, shelf),
+        Err(ImageFault::Memory) => Ending::Quiet(NO_MEMORY),
+        Err(_) => refused(alloc, 3, b"bad image\n"),
+    }
+}
+
+// What the lines come to on a flash with an image.
+fn run_on<H: Shelf>(alloc: Global, nand: MemNand, script: &Script, shelf: &mut H) -> Ending
+    requires few { length script.now ≤ 4194304 }
+    requires image { formats_first script.now ≡ false }
+    requires unplanned { IsUnplanned (mem nand).flash }
+    requires taken { IsTaken (side (H.held shelf.old) (H.faults shelf.old)) (mem nand).flash }
+    ensures { IsScriptDue (Ok script.now) (side (H.held shelf.old) (H.faults shelf.old)) (side (H.held shelf.new) (H.faults shelf.new)) result }
+{
     match serve(alloc, nand, script) {
         Ok(served) => match put_image(alloc, &served.nand, shelf) {
             Ok(()) => Ending::Prints(0, served.text),

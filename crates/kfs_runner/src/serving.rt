@@ -1,12 +1,14 @@
 // The lines of a script on a flash.
 ghost use Rattle.std.specs.Prelude.{◌≡◌, ◌≤◌, ◌<◌, ◌^◌, true, false, length, drop, All, IfOk, IfErr};
-ghost use Rattle.kfs_model.specs.Life.{newborn};
+ghost use Rattle.kv_base.specs.declared.damage.Damage.{Damage};
 ghost use Rattle.kfs_script.specs.Script.{IsLine, is_format};
 ghost use Rattle.kssd_engine.specs.Plans.{asked_by};
 ghost use Rattle.kfs_runner.specs.Numbers.{limits_of};
 ghost use Rattle.kfs_runner.specs.Asks.{IsLastPlanned};
-ghost use Rattle.kfs_runner.specs.Serving.{formats, IsUnplanned, AreDone, IsServed, StopsServing};
+ghost use Rattle.kfs_runner.specs.Refusals.{damaged_in, whole_in};
+ghost use Rattle.kfs_runner.specs.Serving.{formats, formats_first, IsUnplanned, AreDone, IsServed, IsServedOn, StopsServing, StopsOn, StopsBehind};
 
+use crate::flash::Resting;
 use crate::flash_seat::format_flash;
 use crate::host::Host;
 use crate::lines::{Unanswered, answer_all};
@@ -39,7 +41,8 @@ pub enum ServeFault {
     Memory,
 }
 
-/// Does the lines of a script on a flash in their order, from a format of it on, which comes first.
+/// Does the lines of a script on a flash in their order: behind a format of it, where that comes first, else on
+/// its image with the session down.
 ///
 /// # Errors
 ///
@@ -50,20 +53,86 @@ pub fn serve<N: PlannedNand + Drop>(
     nand: N,
     script: &Script,
 ) -> Result<Served<N>, ServeFault>
-    requires formats { formats (N.flash nand).blocks script.now ≡ true }
-    requires few { length script.now ≤ 2 ^ 23 }
+    requires blocks { (256 ≤ (N.flash nand).blocks) × ((N.flash nand).blocks ≤ 2048) }
+    requires formats { formats_first script.now ≡ true → formats (N.flash nand).blocks script.now ≡ true }
+    requires few { length script.now ≤ 2 ^ 22 }
     requires unplanned { IsUnplanned (N.flash nand) }
-    ensures ok { IfOk result (λ served. IsServed (drop 1 script.now) served.text (N.flash nand) (N.flash served.nand)) }
-    ensures planned { IfOk result (λ served. IsLastPlanned (drop 1 script.now) (asked_by (N.planned served.nand) 0)) }
-    ensures stops { IfErr result (StopsServing (limits_of (N.flash nand).blocks) (drop 1 script.now)) }
+    ensures ok { IfOk result (λ served. formats_first script.now ≡ true → IsServed (drop 1 script.now) served.text (N.flash nand) (N.flash served.nand)) }
+    ensures taken { IfOk result (λ served. formats_first script.now ≡ false → IsServedOn script.now served.text (N.flash nand) (N.flash served.nand)) }
+    ensures planned { IfOk result (λ served. formats_first script.now ≡ true → IsLastPlanned (drop 1 script.now) (asked_by (N.planned served.nand) 0)) }
+    ensures planned_on { IfOk result (λ served. formats_first script.now ≡ false → IsLastPlanned script.now (asked_by (N.planned served.nand) 0)) }
+    ensures stops { IfErr result (λ e. formats_first script.now ≡ true → StopsServing (limits_of (N.flash nand).blocks) (drop 1 script.now) e) }
+    ensures stops_on { IfErr result (λ e. formats_first script.now ≡ false → StopsOn (N.flash nand) script.now e) }
 {
     let lines = script.lines();
+    if is_format_first(lines) {
+        serve_new(alloc, nand, behind_format(lines))
+    } else {
+        serve_image(alloc, nand, lines)
+    }
+}
+
+// Whether a format comes first.
+fn is_format_first(lines: &[Line]) -> bool
+    ensures { result ≡ formats_first lines.now }
+{
+    match lines.first() {
+        Some(Line::Format(_)) => true,
+        _ => false,
+    }
+}
+
+// Does lines on a new file system on a flash.
+fn serve_new<N: PlannedNand + Drop>(
+    alloc: Global,
+    nand: N,
+    lines: &[Line],
+) -> Result<Served<N>, ServeFault>
+    requires blocks { (256 ≤ (N.flash nand).blocks) × ((N.flash nand).blocks ≤ 2048) }
+    requires few { length lines.now ≤ 2 ^ 22 }
+    requires lines { All IsLine lines.now }
+    requires formats { All (λ line. is_format line ≡ false) lines.now }
+    requires unplanned { IsUnplanned (N.flash nand) }
+    ensures ok { IfOk result (λ served. IsServed lines.now served.text (N.flash nand) (N.flash served.nand)) }
+    ensures planned { IfOk result (λ served. IsLastPlanned lines.now (asked_by (N.planned served.nand) 0)) }
+    ensures stops { IfErr result (StopsServing (limits_of (N.flash nand).blocks) lines.now) }
+{
     let seat = format_flash(alloc, nand)?;
-    let (store, text) = answer_lines(alloc, seat, behind_format(lines))?;
-    Ok(Served {
-        nand: store.into_nand(),
-        text,
-    })
+    let mut text = Text::new(alloc, b"")?;
+    write_answer(alloc, &mut text, &Answer::Reply(Reply::Done))?;
+    match answer_lines(alloc, seat, lines, text) {
+        Ok((store, text)) => Ok(Served {
+            nand: store.into_nand(),
+            text,
+        }),
+        Err(fault) => Err(fault),
+    }
+}
+
+// Does lines on the image of a flash.
+fn serve_image<N: PlannedNand + Drop>(
+    alloc: Global,
+    nand: N,
+    lines: &[Line],
+) -> Result<Served<N>, ServeFault>
+    requires blocks { (256 ≤ (N.flash nand).blocks) × ((N.flash nand).blocks ≤ 2048) }
+    requires few { length lines.now ≤ 2 ^ 22 }
+    requires lines { All IsLine lines.now }
+    requires formats { All (λ line. is_format line ≡ false) lines.now }
+    requires unplanned { IsUnplanned (N.flash nand) }
+    ensures ok { IfOk result (λ served. IsServedOn lines.now served.text (N.flash nand) (N.flash served.nand)) }
+    ensures planned { IfOk result (λ served. IsLastPlanned lines.now (asked_by (N.planned served.nand) 0)) }
+    ensures stops { IfErr result (StopsOn (N.flash nand) lines.now) }
+{
+    let text = Text::new(alloc, b"")?;
+    let resting = Resting::new(nand);
+    match answer_lines(alloc, Seat::Bare(resting), lines, text) {
+        Ok((store, text)) => Ok(Served {
+            nand: store.into_nand(),
+            text,
+        }),
+        Err(fault) => Err(fault),
+    }
 }
 
 // The lines behind the first.
@@ -74,26 +143,28 @@ fn behind_format(lines: &[Line]) -> &[Line]
     &lines[1..]
 }
 
-// Answers the format that a seat comes from and the lines behind it, and ends the session.
+// Answers lines behind the text of those before them, and ends the session.
 fn answer_lines<S: Store>(
     alloc: Global,
     seat: Seat<S>,
     lines: &[Line],
+    before: Text,
 ) -> Result<(S, Text), ServeFault>
-    requires shows { ⟦<Seat<S> as Host>⟧.shows seat newborn }
+    requires known { ⟦<Seat<S> as Host>⟧.known seat }
     requires age { ⟦<Seat<S> as Host>⟧.age seat ≤ 2 ^ 62 }
-    requires device_age { ⟦<Seat<S> as Host>⟧.device_age seat ≤ 2 ^ 60 }
     requires room { (⟦<Seat<S> as Host>⟧.limits seat).keys ≤ 68544 }
-    requires few { length lines.now ≤ 2 ^ 23 }
+    requires few { length lines.now ≤ 2 ^ 22 }
     requires lines { All IsLine lines.now }
     requires formats { All (λ line. is_format line ≡ false) lines.now }
-    ensures ok { IfOk result (λ r. AreDone (⟦<Seat<S> as Host>⟧.limits seat) lines.now r.1 (⟦<Seat<S> as Host>⟧.strikes seat) (S.machine r.0)) }
-    ensures age { IfOk result (λ r. S.age r.0 < 2 ^ 62) }
+    requires short { length before ≤ OUTPUT_LIMIT }
+    ensures ok { IfOk result (λ r. AreDone (⟦<Seat<S> as Host>⟧.limits seat) lines.now before r.1 (λ s. ⟦<Seat<S> as Host>⟧.shows seat s × ⟦<Seat<S> as Host>⟧.whole seat × (⟦<Seat<S> as Host>⟧.device_age seat ≤ 2 ^ 61)) (⟦<Seat<S> as Host>⟧.rested seat) (⟦<Seat<S> as Host>⟧.strikes seat) (S.machine r.0)) }
+    ensures whole { IfOk result (λ r. ⟦<Seat<S> as Host>⟧.whole seat → ⟦<Seat<S> as Host>⟧.device_age seat ≤ 2 ^ 61 → whole_in (S.rested r.0)) }
+    ensures stays { IfOk result (λ r. (damage : Damage) → damaged_in (⟦<Seat<S> as Host>⟧.rested seat) damage → S.rested r.0 ≡ ⟦<Seat<S> as Host>⟧.rested seat) }
+    ensures age { IfOk result (λ r. ⟦<Seat<S> as Host>⟧.device_age seat ≤ 2 ^ 61 → S.age r.0 < 2 ^ 62) }
     ensures planned { IfOk result (λ r. IsLastPlanned lines.now (S.asked r.0)) }
-    ensures stops { IfErr result (StopsServing (⟦<Seat<S> as Host>⟧.limits seat) lines.now) }
+    ensures stops { IfErr result (StopsBehind (⟦<Seat<S> as Host>⟧.limits seat) lines.now before (λ s. ⟦<Seat<S> as Host>⟧.shows seat s × ⟦<Seat<S> as Host>⟧.whole seat × (⟦<Seat<S> as Host>⟧.device_age seat ≤ 2 ^ 61)) (⟦<Seat<S> as Host>⟧.rested seat)) }
 {
-    let mut text = Text::new(alloc, b"")?;
-    write_answer(alloc, &mut text, &Answer::Reply(Reply::Done))?;
+    let mut text = before;
     match answer_all(alloc, seat, lines, OUTPUT_LIMIT, &mut text) {
         Ok(seat) => Ok((seat.into_store(), text)),
         Err(Unanswered::TooLong) => Err(ServeFault::TooLong(text)),

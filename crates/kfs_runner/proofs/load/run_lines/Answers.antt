@@ -1,16 +1,17 @@
-use Rattle.std.proofs.Common.{◌≡◌, ◌<◌, ◌≤◌, ◌+◌, ◌∙◌, ◌∷◌, ℕ, suc, Bool, true, false, List, length, drop, get_or, sym, ap, subst, arith, add-one}
+use Rattle.std.proofs.Common.{◌≡◌, ◌<◌, ◌≤◌, ◌+◌, ◌^◌, ◌∙◌, ◌∷◌, ℕ, suc, Bool, true, false, List, length, drop, get_or, sym, ap, subst, arith, add-one}
 use Rattle.std.proofs.Math.Seq.{drop-cons, drop-length}
 use Rattle.kfs_model.specs.declared.Line.{Line}
 use Rattle.kfs_model.specs.declared.Answer.{Answer}
 use Rattle.kfs_model.specs.declared.Answer.TheVariants as answers
 use Rattle.kfs_plain.specs.Plain.{Plain}
 use Rattle.kfs_plain.specs.declared.tree.Totals.{Totals}
-use Rattle.kfs_script.specs.Script.{IsLine}
+use Rattle.kfs_script.specs.Script.{IsLine, is_format}
 use Rattle.kfs_load.specs.Coming.{is_error}
 use Rattle.kfs_runner.specs.declared.load.Tally.{Tally}
-use Rattle.kfs_runner.specs.Seats.{seated, seat_limits}
+use Rattle.kfs_runner.specs.Seats.{seated, seat_limits, device_age}
+use Rattle.kfs_runner.proofs.Lives.{young_low}
 use Rattle.kfs_runner.specs.Counts.{counted, Counts, IsCounted}
-use Rattle.kfs_runner.proofs.LoadRuns.{IsAt, begins, goes_on, ends, load_has, lines_hold, load_follows, load_few}
+use Rattle.kfs_runner.proofs.LoadRuns.{IsAt, SeatDoes, begins, goes_on, ends, load_has, lines_hold, no_formats, load_follows, load_few}
 use Rattle.kfs_runner.proofs.load.run_lines.Goals as goal
 
 rest_is : (ls : List Line) (i : ℕ) (line : Line) → i < length ls → line ≡ get_or ls i line → drop i ls ≡ line ∷ drop (i + 1) ls
@@ -27,7 +28,9 @@ counts_few old new (answers.Refused damage) counts = absurd counts
 
 pub loop-line-init : goal.loop-line-init
 loop-line-init g c = record {
-  at = begins (seated g.S.Store.machine g.S.Store.age c.args.seat) c.args.plain c.args.lines.now c.requires.shows c.requires.plain (load_follows c.args.lines.now c.requires.load);
+  at = begins (seated g.S.Store.machine g.S.Store.age g.S.Store.rested c.args.seat) c.args.plain c.args.lines.now c.requires.shows c.requires.plain (load_follows c.args.lines.now c.requires.load);
+  known = c.requires.known;
+  whole = c.requires.whole;
   age = c.requires.age;
   device = c.requires.device_age;
   next = omega (arith, ap (λ (p : Plain). p.world.tree.next) c.requires.plain);
@@ -45,11 +48,10 @@ answer-next-requires-clause-age g c =
     let few = load_few c.args.lines.now c.requires.load in
     omega (arith, c.loop-line.invariant.age, few, below)
 
-pub answer-next-requires-clause-device_age : goal.answer-next-requires-clause-device_age
-answer-next-requires-clause-device_age g c =
+pub answer-next-requires-clause-format : goal.answer-next-requires-clause-format
+answer-next-requires-clause-format g c =
     let below : c.loop-line.line-index < length c.args.lines.now = omega arith in
-    let few = load_few c.args.lines.now c.requires.load in
-    omega (arith, c.loop-line.invariant.device, few, below)
+    load_has (λ line. is_format line ≡ false) no_formats c.args.lines.now c.requires.load c.loop-line.line-index c.line-item.result below c.line-item.is
 
 pub with_answer-requires : goal.with_answer-requires
 with_answer-requires g c =
@@ -65,7 +67,7 @@ follow-requires g c =
 
 pub loop-line-preserved : goal.loop-line-preserved
 loop-line-preserved g c =
-    let at_seat = seated g.S.Store.machine g.S.Store.age in
+    let at_seat = seated g.S.Store.machine g.S.Store.age g.S.Store.rested in
     let k = seat_limits (at_seat c.args.seat) in
     let line = c.line-item.result in
     let answer = c.answer-next.result.1 in
@@ -73,13 +75,19 @@ loop-line-preserved g c =
     let below : c.loop-line.line-index < length c.args.lines.now = omega arith in
     let R : List Line → Type 0 = λ ls. IsAt k (at_seat c.loop-line.seat) c.loop-line.plain c.loop-line.tally ls c.args.lines.now in
     let at = subst R (rest_is c.args.lines.now c.loop-line.line-index line below c.line-item.is) c.loop-line.invariant.at in
-    let went = c.answer-next.ensures.goes_on c.loop-line.invariant.at.state c.loop-line.invariant.at.shows in
+    let few = load_few c.args.lines.now c.requires.load in
+    let before = c.loop-line.invariant in
+    let many : at.changes + 2 < 2 ^ 62 = omega (arith, at.spent, few) in
+    let young : device_age (at_seat c.loop-line.seat) < 2 ^ 62 = omega (arith, before.device, few, below) in
+    let went = c.answer-next.ensures.goes_on at.state at.shows (young_low at.changes at.state many at.young) before.whole young in
+    let does : SeatDoes (at_seat c.loop-line.seat) at.state line answer (at_seat c.answer-next.result.0) = (went.0, went.1, went.2, c.answer-next.ensures.limits) in
     let P : Plain → Type 0 = λ p. IsAt k (at_seat c.answer-next.result.0) p c.in_ok-tally.tally rest c.args.lines.now in
-    let age = went.4 in
     let counts = counts_few c.loop-line.tally c.in_ok-tally.tally answer c.in_ok-tally.ensures in
     record {
-      at = subst P (sym c.in_ok-follow.ensures.behind) (goes_on k (at_seat c.loop-line.seat) (at_seat c.answer-next.result.0) c.loop-line.plain c.loop-line.tally c.in_ok-tally.tally line rest c.args.lines.now answer at c.answer-next.ensures.goes_on c.in_ok-tally.ensures);
-      age = omega (arith, age, c.loop-line.invariant.age);
+      at = subst P (sym c.in_ok-follow.ensures.behind) (goes_on k (at_seat c.loop-line.seat) (at_seat c.answer-next.result.0) c.loop-line.plain c.loop-line.tally c.in_ok-tally.tally line rest c.args.lines.now answer at does c.in_ok-tally.ensures);
+      known = c.answer-next.ensures.known;
+      whole = c.answer-next.ensures.whole before.whole young;
+      age = omega (arith, c.answer-next.ensures.age, c.loop-line.invariant.age);
       device = omega (arith, c.answer-next.ensures.device_age, c.loop-line.invariant.device);
       next = omega (arith, c.in_ok-follow.ensures.next, c.loop-line.invariant.next);
       few = omega (arith, counts, c.loop-line.invariant.few);
@@ -87,7 +95,7 @@ loop-line-preserved g c =
 
 pub returns-clause-counted : goal.returns-clause-counted
 returns-clause-counted g c =
-    let at_seat = seated g.S.Store.machine g.S.Store.age in
+    let at_seat = seated g.S.Store.machine g.S.Store.age g.S.Store.rested in
     let k = seat_limits (at_seat c.args.seat) in
     let end : c.loop-line.line-index ≡ length c.args.lines.now = omega arith in
     let R : List Line → Type 0 = λ ls. IsAt k (at_seat c.loop-line.seat) c.loop-line.plain c.loop-line.tally ls c.args.lines.now in

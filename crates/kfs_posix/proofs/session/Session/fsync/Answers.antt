@@ -1,11 +1,14 @@
-use Rattle.std.proofs.Common.{◌^◌, ◌∙◌, sym, ap, arith}
+use Rattle.std.proofs.Common.{◌^◌, ap, arith, refl}
 use Rattle.kfs_path.specs.declared.call.Call.TheVariants as calls
 use Rattle.kfs_tx.specs.Run.{Run}
 use Rattle.kfs_core.specs.Core.{run_in}
 use Rattle.kfs_posix.proofs.Calls.{none_of}
-use Rattle.kfs_posix.proofs.Fault.{counts_by, keeps_by, none_kept, counts_same, commit_counts, commit_awake}
+use Rattle.kfs_posix.proofs.Fault.{counts_by, keeps_by, none_kept, counts_same, commit_counts}
 use Rattle.kfs_posix.proofs.Answered.{off_goes, off_keeps, aged_none, aged_by, age_in, fsync_answered, fsync_refused, fsync_bad}
 use Rattle.kfs_posix.proofs.session.Session.fsync.Goals as goal
+use Rattle.kfs_posix.proofs.Shown.{showing_after, showing_in, awake_in}
+use Rattle.kfs_posix.specs.Book.{book_of}
+use Rattle.kfs_posix.specs.Answering.{refusal, down_after}
 
 pub returns-then-is_some-clause-goes_on : goal.returns-then-is_some-clause-goes_on
 returns-then-is_some-clause-goes_on g c = off_goes c.args.self.now c.self.inside.kfs c.self.inside.files.opens c.self.inside.down (calls.Fsync c.args.fd) c.self.view_is c.if-is_some.ensures
@@ -19,14 +22,17 @@ returns-then-is_some-clause-age g c = aged_none _
 pub commit-requires : goal.commit-requires
 commit-requires g c = age_in c.args.self.now c.self.inside.kfs c.self.inside.files.opens c.self.inside.down c.self.view_is c.requires
 
+pub refuse-requires : goal.refuse-requires
+refuse-requires g c = (fsync_refused c.args.self.now c.self.inside.kfs c.commit.new.self c.self.inside.files.opens c.self.inside.down c.self.view_is (none_of c.self.inside.down c.if-is_some.ensures) c.in-Err.ensures.rest c.args.fd c.in-Some.field-0 c.in-Some.ensures.open (refusal c.in-Err.fault) c.in-Err.fault (down_after c.self.inside.down c.in-Err.fault) c.in-Err.ensures.err refl refl).answerable (showing_in c.args.self.now c.self.inside.kfs c.self.inside.files.opens c.self.inside.down c.self.view_is c.self.invariant)
+
 pub invariant_of-self-in-Err : goal.invariant_of-self-in-Err
-invariant_of-self-in-Err g c = λ none. commit_awake (run_in c.self.inside.kfs) (run_in c.commit.new.self) c.self.inside.down c.in-Err.fault c.in-Err.ensures.err (sym c.refuse.ensures.down ∙ none)
+invariant_of-self-in-Err g c = showing_after c.args.self.now c.self.inside.kfs c.self.inside.files.opens c.self.inside.down c.self.view_is (none_of c.self.inside.down c.if-is_some.ensures) c.self.invariant _ _ _ (fsync_refused c.args.self.now c.self.inside.kfs c.commit.new.self c.self.inside.files.opens c.self.inside.down c.self.view_is (none_of c.self.inside.down c.if-is_some.ensures) c.in-Err.ensures.rest c.args.fd c.in-Some.field-0 c.in-Some.ensures.open c.refuse.result c.in-Err.fault c.refuse.new.down c.in-Err.ensures.err c.refuse.ensures.reply c.refuse.ensures.down).goes
 
 pub returns-in-Err-clause-goes_on : goal.returns-in-Err-clause-goes_on
-returns-in-Err-clause-goes_on g c = fsync_refused c.args.self.now c.self.inside.kfs c.commit.new.self c.self.inside.files.opens c.self.inside.down c.self.view_is (none_of c.self.inside.down c.if-is_some.ensures) c.in-Err.ensures.rest c.args.fd c.in-Some.field-0 c.in-Some.ensures.open c.refuse.result c.in-Err.fault c.refuse.new.down c.in-Err.ensures.err c.refuse.ensures.reply c.refuse.ensures.down
+returns-in-Err-clause-goes_on g c = (fsync_refused c.args.self.now c.self.inside.kfs c.commit.new.self c.self.inside.files.opens c.self.inside.down c.self.view_is (none_of c.self.inside.down c.if-is_some.ensures) c.in-Err.ensures.rest c.args.fd c.in-Some.field-0 c.in-Some.ensures.open c.refuse.result c.in-Err.fault c.refuse.new.down c.in-Err.ensures.err c.refuse.ensures.reply c.refuse.ensures.down).goes
 
 pub returns-in-Err-clause-counts : goal.returns-in-Err-clause-counts
-returns-in-Err-clause-counts g c = counts_by c.args.self.now c.self.inside.kfs c.self.inside.files.opens c.self.inside.down c.refuse.result c.in-Err.fault c.commit.new.self.running.run.machine c.self.view_is c.refuse.ensures.reply (commit_counts (run_in c.self.inside.kfs) (run_in c.commit.new.self) c.in-Err.fault (c.self.invariant (none_of c.self.inside.down c.if-is_some.ensures)) c.in-Err.ensures.err)
+returns-in-Err-clause-counts g c = counts_by c.args.self.now c.self.inside.kfs c.self.inside.files.opens c.self.inside.down c.refuse.result c.in-Err.fault c.commit.new.self.running.run.machine c.self.view_is c.refuse.ensures.reply (commit_counts (run_in c.self.inside.kfs) (run_in c.commit.new.self) c.in-Err.fault (awake_in (book_of c.self.inside.kfs c.self.inside.files.opens c.self.inside.down) c.self.invariant (none_of c.self.inside.down c.if-is_some.ensures)) c.in-Err.ensures.err)
 
 pub returns-in-Err-clause-down : goal.returns-in-Err-clause-down
 returns-in-Err-clause-down g c = keeps_by c.args.self.now c.self.inside.kfs c.commit.new.self c.self.inside.files.opens c.self.inside.down c.refuse.new.down c.refuse.result c.in-Err.fault c.self.view_is (none_of c.self.inside.down c.if-is_some.ensures) c.refuse.ensures.reply c.refuse.ensures.down
@@ -35,7 +41,7 @@ pub returns-in-Err-clause-age : goal.returns-in-Err-clause-age
 returns-in-Err-clause-age g c = aged_by c.args.self.now c.self.inside.kfs c.commit.new.self c.self.inside.files.opens c.self.inside.down (2 ^ 16) (omega arith) c.self.view_is c.in-Err.ensures.age
 
 pub invariant_of-self : goal.invariant_of-self
-invariant_of-self g c = λ none. ap (λ (r : Run). r.machine.up) c.in-Ok.ensures.ok ∙ c.self.invariant none
+invariant_of-self g c = showing_after c.args.self.now c.self.inside.kfs c.self.inside.files.opens c.self.inside.down c.self.view_is (none_of c.self.inside.down c.if-is_some.ensures) c.self.invariant _ _ _ (fsync_answered c.args.self.now c.self.inside.kfs c.commit.new.self c.self.inside.files.opens c.self.inside.down c.self.view_is (none_of c.self.inside.down c.if-is_some.ensures) c.in-Ok.ensures.rest c.args.fd c.in-Some.field-0 c.in-Some.ensures.open c.in-Ok.ensures.ok)
 
 pub returns-in-Ok-clause-goes_on : goal.returns-in-Ok-clause-goes_on
 returns-in-Ok-clause-goes_on g c = fsync_answered c.args.self.now c.self.inside.kfs c.commit.new.self c.self.inside.files.opens c.self.inside.down c.self.view_is (none_of c.self.inside.down c.if-is_some.ensures) c.in-Ok.ensures.rest c.args.fd c.in-Some.field-0 c.in-Some.ensures.open c.in-Ok.ensures.ok

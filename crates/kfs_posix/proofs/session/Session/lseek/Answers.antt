@@ -6,6 +6,7 @@ use Rattle.kfs_posix.proofs.Calls.{none_of}
 use Rattle.kfs_posix.proofs.Turns.{lseek_turns, turned_goes, turned_counts, turned_keeps}
 use Rattle.kfs_posix.proofs.Answered.{off_goes, off_keeps, aged_none}
 use Rattle.kfs_posix.proofs.session.Session.lseek.Goals as goal
+use Rattle.kfs_posix.proofs.Shown.{showing_after}
 
 pub returns-then-is_some-clause-goes_on : goal.returns-then-is_some-clause-goes_on
 returns-then-is_some-clause-goes_on g c = off_goes c.args.self.now c.self.inside.kfs c.self.inside.files.opens c.self.inside.down (calls.Lseek c.args.fd c.args.whence c.args.offset) c.self.view_is c.if-is_some.ensures
@@ -15,6 +16,9 @@ returns-then-is_some-clause-down g c = off_keeps c.args.self.now c.self.inside.k
 
 pub returns-then-is_some-clause-age : goal.returns-then-is_some-clause-age
 returns-then-is_some-clause-age g c = aged_none _
+
+pub invariant_of-self : goal.invariant_of-self
+invariant_of-self g c = showing_after c.args.self.now c.self.inside.kfs c.self.inside.files.opens c.self.inside.down c.self.view_is (none_of c.self.inside.down c.if-is_some.ensures) c.self.invariant _ _ _ (turned_goes c.args.self.now c.self.inside.kfs c.self.inside.files.opens c.lseek.new.files.opens c.self.inside.down c.self.view_is (none_of c.self.inside.down c.if-is_some.ensures) (calls.Lseek c.args.fd c.args.whence c.args.offset) c.lseek.result (lseek_in c.self.inside.files.opens c.args.fd c.args.whence c.args.offset) (lseek_turns c.self.inside.files.opens c.args.fd c.args.whence c.args.offset) (c.lseek.ensures ∙ ap (λ z. turned c.self.inside.files.opens (lseek_in c.self.inside.files.opens c.args.fd c.args.whence z)) (to_z-of_z w64 c.args.offset c.ranges.offset)))
 
 pub returns-clause-goes_on : goal.returns-clause-goes_on
 returns-clause-goes_on g c = turned_goes c.args.self.now c.self.inside.kfs c.self.inside.files.opens c.lseek.new.files.opens c.self.inside.down c.self.view_is (none_of c.self.inside.down c.if-is_some.ensures) (calls.Lseek c.args.fd c.args.whence c.args.offset) c.lseek.result (lseek_in c.self.inside.files.opens c.args.fd c.args.whence c.args.offset) (lseek_turns c.self.inside.files.opens c.args.fd c.args.whence c.args.offset) (c.lseek.ensures ∙ ap (λ z. turned c.self.inside.files.opens (lseek_in c.self.inside.files.opens c.args.fd c.args.whence z)) (to_z-of_z w64 c.args.offset c.ranges.offset))

@@ -3,11 +3,11 @@ use Rattle.kv_device.specs.Asked.{asks_cut}
 use Rattle.kv_device.specs.Machine.{with_most_cuts}
 use Rattle.kfs_tx.specs.Run.{Run}
 use Rattle.kfs_posix.specs.Book.{SessionState}
-use Rattle.kfs_posix.proofs.Planning.{plan_by}
+use Rattle.kfs_posix.proofs.Planning.{plan_by, cut_showing}
 use Rattle.kfs_posix.proofs.session.Session.plan_cut.Goals as goal
 
 pub invariant_of-self : goal.invariant_of-self
-invariant_of-self g c = λ none. ap (λ (r : Run). r.machine.up) c.plan_cut.ensures.planned ∙ c.self.invariant none
+invariant_of-self g c = cut_showing c.self.inside.kfs c.plan_cut.new.self c.self.inside.files.opens c.self.inside.down c.plan_cut.ensures.rest c.plan_cut.ensures.planned c.self.invariant
 
 pub returns-clause-goes_on : goal.returns-clause-goes_on
 returns-clause-goes_on g c = plan_by c.args.self.now c.self.inside.kfs c.plan_cut.new.self c.self.inside.files.opens c.self.inside.down c.args.n c.args.how c.self.view_is c.plan_cut.ensures.rest c.plan_cut.ensures.planned

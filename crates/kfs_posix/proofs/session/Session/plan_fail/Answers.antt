@@ -4,11 +4,11 @@ use Rattle.kv_device.specs.Asked.{asks_fault}
 use Rattle.kv_device.specs.Machine.{with_most_faults}
 use Rattle.kfs_tx.specs.Run.{Run}
 use Rattle.kfs_posix.specs.Book.{SessionState}
-use Rattle.kfs_posix.proofs.Planning.{fail_by}
+use Rattle.kfs_posix.proofs.Planning.{fail_by, fail_showing}
 use Rattle.kfs_posix.proofs.session.Session.plan_fail.Goals as goal
 
 pub invariant_of-self : goal.invariant_of-self
-invariant_of-self g c = λ none. ap (λ (r : Run). r.machine.up) c.plan_fail.ensures.planned ∙ c.self.invariant none
+invariant_of-self g c = fail_showing c.self.inside.kfs c.plan_fail.new.self c.self.inside.files.opens c.self.inside.down c.plan_fail.new.self.running.run.machine.most_faults c.plan_fail.ensures.rest c.plan_fail.ensures.planned c.self.invariant
 
 pub returns-clause-goes_on : goal.returns-clause-goes_on
 returns-clause-goes_on g c = fail_by c.args.self.now c.self.inside.kfs c.plan_fail.new.self c.self.inside.files.opens c.self.inside.down c.args.kind c.args.n c.plan_fail.new.self.running.run.machine.most_faults c.self.view_is c.plan_fail.ensures.rest c.plan_fail.ensures.planned c.plan_fail.ensures.fewest c.plan_fail.ensures.most

@@ -1,3 +1,4 @@
+use Rattle.kfs_model.specs.Life.{newborn}
 use Rattle.kfs_runner.proofs.SeatLaws.{begins}
 use Rattle.kfs_runner.proofs.seat.Seat.begin.Goals as goal
 
@@ -8,3 +9,7 @@ returns-in-Ok-clause-shows g c =
 pub returns-in-Ok-clause-limits : goal.returns-in-Ok-clause-limits
 returns-in-Ok-clause-limits g c =
     (begins (g.S.Device.Device.machine c.args.device) c.in-Ok.session c.requires.new c.requires.least c.in-Ok.ensures.ok c.in-Ok.ensures.begun).1
+
+pub returns-in-Ok-clause-known : goal.returns-in-Ok-clause-known
+returns-in-Ok-clause-known g c =
+    (newborn, (begins (g.S.Device.Device.machine c.args.device) c.in-Ok.session c.requires.new c.requires.least c.in-Ok.ensures.ok c.in-Ok.ensures.begun).0)

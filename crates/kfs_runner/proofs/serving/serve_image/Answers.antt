@@ -1,0 +1,53 @@
+use Rattle.std.proofs.Common.{◌≡◌, ◌<◌, ◌≤◌, ◌^◌, ◌∙◌, ◌++◌, Some, refl, ap, sym, subst, arith}
+use Rattle.kv_base.specs.declared.damage.Damage.{Damage}
+use Rattle.kv_device.specs.Machine.{Machine}
+use Rattle.kssd_image.specs.Whole.{age_in}
+use Rattle.kssd_machine.specs.Machines.{resting}
+use Rattle.kfs_runner.specs.Numbers.{limits_of}
+use Rattle.kfs_runner.specs.Refusals.{rested_on, whole_in, damaged_in}
+use Rattle.kfs_runner.specs.Seats.{Seated, Bare, Known, IsSeatWhole, shows_seat, seat_limits, seat_rested, seat_strikes, seat_age, device_age}
+use Rattle.kfs_runner.specs.Serving.{AreDone, StopsBehind}
+use Rattle.kfs_runner.specs.Strikes.{strikes_of}
+use Rattle.kfs_runner.proofs.Asking.{last_moved}
+use Rattle.kfs_runner.proofs.ServedImages.{Begins, known_on, served_on, stops_on}
+use Rattle.kfs_runner.proofs.serving.serve_image.Goals as goal
+
+pub answer_lines-requires-clause-known : goal.answer_lines-requires-clause-known
+answer_lines-requires-clause-known g c =
+    let old = g.N.Nand.flash c.args.nand in
+    let done = c.new-resting.ensures in
+    let at : _ ≡ Bare (resting old) (age_in old.image) (Some (rested_on old)) = λ i. Bare (done.rests i) (done.age i) (done.rested i) in
+    subst Known (sym at) (known_on old (age_in old.image) (Some (rested_on old)) c.requires.unplanned)
+
+pub returns-in-Ok-clause-ok : goal.returns-in-Ok-clause-ok
+returns-in-Ok-clause-ok g c =
+    let old = g.N.Nand.flash c.args.nand in
+    let new = g.N.Nand.flash c.into_nand.result in
+    let kept = g.N.Nand.flash c.in-Ok.store.nand in
+    let ls = c.args.lines.now in
+    let first = c.in_ok-text.text in
+    let text = c.in-Ok.text in
+    let done = c.new-resting.ensures in
+    let at : _ ≡ Bare (resting old) (age_in old.image) (Some (rested_on old)) = λ i. Bare (done.rests i) (done.age i) (done.rested i) in
+    let all = subst (λ (seat : Seated). AreDone (seat_limits seat) ls first text (λ s. shows_seat seat s × IsSeatWhole seat × (device_age seat ≤ 2 ^ 61)) (seat_rested seat) (seat_strikes seat) (resting kept)) at c.in-Ok.ensures.ok in
+    let rests = subst (λ (m : Machine). AreDone (limits_of old.blocks) ls first text (Begins old) (Some (rested_on old)) (strikes_of (resting old)) m) (sym c.into_nand.ensures.rests) all in
+    let whole = subst (λ (seat : Seated). IsSeatWhole seat → device_age seat ≤ 2 ^ 61 → whole_in (Some (rested_on kept))) at c.in-Ok.ensures.whole in
+    let low = subst (λ (seat : Seated). device_age seat ≤ 2 ^ 61 → age_in kept.image < 2 ^ 62) at c.in-Ok.ensures.age in
+    let stays = subst (λ (seat : Seated). (damage : Damage) → damaged_in (seat_rested seat) damage → Some (rested_on kept) ≡ seat_rested seat) at c.in-Ok.ensures.stays in
+    served_on old new ls first text (record { least = c.requires.blocks.0; most = c.requires.blocks.1 }) c.requires.few c.requires.unplanned c.into_nand.ensures.blocks c.in_ok-text.ensures
+    (λ w y. subst whole_in (sym c.into_nand.ensures.rested) (whole w y))
+    (λ y. omega (arith, c.into_nand.ensures.age, low y))
+    (λ damage is. c.into_nand.ensures.rested ∙ stays damage is)
+    rests
+
+pub returns-in-Ok-clause-planned : goal.returns-in-Ok-clause-planned
+returns-in-Ok-clause-planned g c = last_moved c.args.lines.now c.args.lines.now _ _ refl c.into_nand.ensures.asked c.in-Ok.ensures.planned
+
+pub returns-in-Err-clause-stops : goal.returns-in-Err-clause-stops
+returns-in-Err-clause-stops g c =
+    let old = g.N.Nand.flash c.args.nand in
+    let ls = c.args.lines.now in
+    let first = c.in_ok-text.text in
+    let done = c.new-resting.ensures in
+    let at : _ ≡ Bare (resting old) (age_in old.image) (Some (rested_on old)) = λ i. Bare (done.rests i) (done.age i) (done.rested i) in
+    stops_on old ls first c.in-Err.fault c.requires.unplanned c.in_ok-text.ensures (subst (λ (seat : Seated). StopsBehind (seat_limits seat) ls first (λ s. shows_seat seat s × IsSeatWhole seat × (device_age seat ≤ 2 ^ 61)) (seat_rested seat) c.in-Err.fault) at c.in-Err.ensures.stops)
