@@ -4,7 +4,8 @@
 //! `< FILE` takes the image that a file spells. What follows changes it: `! P=cut`, `! P=erased` and
 //! `! P=Q` say that page P is cut, erased, or as page Q is, `! P+N=HEX` that it is whole and has these bytes from
 //! byte N on, and `+ KEY=VALUE` and `- KEY` that an object is set or deleted, with key and value in hexadecimal
-//! digits. The lines behind are the script that is done on it, of which the first is `@mount`.
+//! digits. The lines behind are the script that the program does on it, of which the first is `@mount`. Its answers are
+//! written; and a line where its status isn't 0, or where a run that refused the image left another one, which must not be.
 //!
 //! A file spells an image by lines `P=cut` and `P+N=HEX` for the pages that aren't erased; bytes that no
 //! line gives are zero.
@@ -13,7 +14,6 @@
 mod image;
 mod objects;
 mod row;
-mod seat;
 
 use crate::row::Row;
 use kv_base::Memory;

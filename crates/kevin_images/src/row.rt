@@ -1,12 +1,7 @@
 // A row: an image, its changes, and the script that is done on it.
-ghost use Rattle.std.specs.Prelude.{◌≤◌};
-ghost use Rattle.nand_mem.specs.MemNand.{mem};
-
 use crate::image::Image;
 use crate::objects::with_object;
-use crate::seat::answer_lines;
-use kfs_runner::{MemShelf, MemSource, run_words};
-use kfs_script::read_script;
+use kfs_runner::{MemShelf, MemSink, MemSource, run_words, write_ending};
 use kv_base::{Memory, Text};
 use nand_mem::MemNand;
 use std::alloc::Global;
@@ -16,8 +11,18 @@ use std::{fs, io};
 /// The room on the shelf for an image of 256 blocks.
 const SHELF: usize = 34_086_924;
 
-/// The most bytes of a script.
-const MOST_BYTES: usize = 16_777_216;
+/// The room for the answers.
+const ROOM: usize = 1_000_000;
+
+/// What a mount is refused with that judges the flash, and so leaves its image as it is.
+const FLASH_DAMAGES: [&str; 6] = [
+    "refused noanchor",
+    "refused damaged anchor ",
+    "refused damaged run ",
+    "refused damaged log ",
+    "refused damaged value ",
+    "refused damaged space ",
+];
 
 /// A row.
 #[derive(Drop)]
@@ -31,15 +36,54 @@ fn no_memory(_: Memory) -> io::Error {
     io::Error::from(io::ErrorKind::OutOfMemory)
 }
 
-// The image that a script leaves.
-fn image_of(alloc: Global, script: &str) -> Result<Image, Memory> {
+// What a run comes to: its status, its answers, and what the shelf holds behind it.
+#[derive(Drop)]
+struct Ended {
+    status: u8,
+    answers: Text,
+    file: Text,
+}
+
+// Runs a script over what the shelf holds.
+fn run(alloc: Global, held: &[u8], script: &str) -> Result<Ended, Memory> {
     let mut words = Vec::new(alloc);
     words.push(Text::new(alloc, b"run")?)?;
     words.push(Text::new(alloc, b"img")?)?;
-    let mut shelf = MemShelf::new(alloc, b"", SHELF, &[])?;
+    let mut shelf = MemShelf::new(alloc, held, SHELF, &[])?;
     let mut source = MemSource::new(alloc, script.as_bytes(), &[])?;
-    run_words(alloc, &words, &mut shelf, &mut source);
-    Image::read(alloc, shelf.bytes())
+    let mut sink = MemSink::new(alloc, ROOM, &[])?;
+    let ending = run_words(alloc, &words, &mut shelf, &mut source);
+    Ok(Ended {
+        status: write_ending(&mut sink, &ending),
+        answers: Text::new(alloc, sink.bytes())?,
+        file: Text::new(alloc, shelf.bytes())?,
+    })
+}
+
+// The first of the answers.
+fn first_answer(answers: &Text) -> &str {
+    let answers = std::str::from_utf8(answers.bytes()).unwrap_or("no text");
+    answers.lines().next().unwrap_or("")
+}
+
+// Adds a line where a run that refused an image at first left another one, or one that is refused otherwise: a
+// damage of the flash leaves the image as it is, and one of the objects leaves the objects.
+fn tell_left(alloc: Global, held: &[u8], ended: &Ended, text: &mut Text) -> Result<(), Memory> {
+    let refusal = first_answer(&ended.answers);
+    if !refusal.starts_with("refused ") {
+        return Ok(());
+    }
+    let is_of_flash = FLASH_DAMAGES
+        .iter()
+        .any(|damage| refusal.starts_with(*damage));
+    if is_of_flash && ended.file.bytes() != held {
+        text.append(b"the image is another\n")?;
+    }
+    let again = run(alloc, ended.file.bytes(), "@mount\n")?;
+    if first_answer(&again.answers) != refusal {
+        text.append(b"the next run answers otherwise\n")?;
+    }
+    Ok(())
 }
 
 impl Row {
@@ -81,9 +125,9 @@ impl Row {
         match self.image.take() {
             Some(image) => Ok(image),
             None => {
-                let image = image_of(alloc, self.script.as_str())?;
+                let ended = run(alloc, b"", self.script.as_str())?;
                 self.script.clear();
-                Ok(image)
+                Image::read(alloc, ended.file.bytes())
             }
         }
     }
@@ -97,25 +141,16 @@ impl Row {
             text.append(b"no image\n")?;
             return Ok(text);
         };
-        let Ok(nand) = MemNand::from_image(alloc, image.file(alloc)?.as_slice()) else {
-            text.append(b"no image\n")?;
-            return Ok(text);
-        };
-        answer_script(alloc, nand, self.script.as_bytes(), &mut text)?;
+        let file = image.file(alloc)?;
+        let ended = run(alloc, file.as_slice(), self.script.as_str())?;
+        if ended.status != 0 {
+            let status = ended.status;
+            let line = format!(in alloc; "= {status}\n")?;
+            text.append(line.as_bytes())?;
+        }
+        text.append(ended.answers.bytes())?;
+        tell_left(alloc, file.as_slice(), &ended, &mut text)?;
         Ok(text)
-    }
-}
-
-// Answers a script on a flash.
-fn answer_script(alloc: Global, nand: MemNand, script: &[u8], text: &mut Text) -> Result<(), Memory>
-    requires blocks { (256 ≤ (mem nand).flash.blocks) × ((mem nand).flash.blocks ≤ 2048) }
-{
-    if script.len() > MOST_BYTES {
-        return text.append(b"no script\n");
-    }
-    match read_script(alloc, script) {
-        Ok(script) => answer_lines(alloc, nand, script.lines(), text),
-        Err(_) => text.append(b"no script\n"),
     }
 }
 

@@ -1,14 +1,14 @@
 // The answers of a session against those of a plain tree.
 use crate::beside::Beside;
 use kfs_path::Call;
-use kfs_script::{Line, read_script};
+use kfs_script::{Line, Script, read_script};
 use kssd_layout::Layout;
 use kv_base::Memory;
 use std::alloc::Global;
 
 // What was done since the format: calls, and where there is none a mount, which closes all that is
 // open.
-type Past<'a> = Vec<Option<&'a Call>>;
+type Past<'s> = Vec<Option<&'s Call>>;
 
 // What is planned and was not met yet.
 #[derive(Clone, Copy)]
@@ -16,6 +16,12 @@ struct Planned {
     cut: bool,
     fault: bool,
 }
+
+// Neither a cut nor a fault is planned.
+const NOTHING_PLANNED: Planned = Planned {
+    cut: false,
+    fault: false,
+};
 
 impl Planned {
     // Whether a session may go down with this answer. What it goes down by is met then.
@@ -37,10 +43,10 @@ impl Planned {
 
 // A plain tree that goes along with a session, and what the session answered and is still unread.
 #[derive(Drop)]
-struct Following<'a> {
+struct Following<'s, 'a> {
     layout: Layout,
     tree: Beside,
-    past: Past<'a>,
+    past: Past<'s>,
     rest: &'a str,
     planned: Planned,
     is_up: bool,
@@ -50,21 +56,27 @@ struct Following<'a> {
     own: u64,
 }
 
-impl<'a> Following<'a> {
-    fn new(alloc: Global, layout: Layout, answers: &'a str) -> Result<Following<'a>, Memory> {
+impl<'s, 'a> Following<'s, 'a> {
+    fn new(alloc: Global, layout: Layout) -> Result<Following<'s, 'a>, Memory> {
         Ok(Following {
             layout,
             tree: Beside::new(alloc, &layout)?,
             past: Vec::new(alloc),
-            rest: answers,
-            planned: Planned {
-                cut: false,
-                fault: false,
-            },
+            rest: "",
+            planned: NOTHING_PLANNED,
             is_up: true,
             last: 0,
             own: 0,
         })
+    }
+
+    // A run has ended, and its image is taken by the next: the session is down, and nothing is planned.
+    fn end_run(&mut self) {
+        if self.is_up {
+            let last = self.tree.mark();
+            self.go_down(last);
+        }
+        self.planned = NOTHING_PLANNED;
     }
 
     // The next line of the answers.
@@ -75,7 +87,7 @@ impl<'a> Following<'a> {
     }
 
     // Whether the answer to a line is one that the plain tree allows.
-    fn agrees(&mut self, alloc: Global, line: &'a Line) -> Result<bool, Memory> {
+    fn agrees(&mut self, alloc: Global, line: &'s Line) -> Result<bool, Memory> {
         match line {
             Line::Call(call) => self.agrees_on_call(alloc, call),
             Line::Mount => self.agrees_on_mount(alloc),
@@ -91,7 +103,7 @@ impl<'a> Following<'a> {
         }
     }
 
-    fn agrees_on_call(&mut self, alloc: Global, call: &'a Call) -> Result<bool, Memory> {
+    fn agrees_on_call(&mut self, alloc: Global, call: &'s Call) -> Result<bool, Memory> {
         if !self.is_up {
             return Ok(self.next_line() == "off");
         }
@@ -181,31 +193,77 @@ const NOTHING: Compared = Compared {
 // The most bytes of a script that is compared.
 const MOST_BYTES: usize = 16_777_216;
 
-/// Compares the answers of a session to a script with those of a plain tree.
-pub fn compare(alloc: Global, script: &str, answers: &str) -> Result<Compared, Memory> {
-    if script.len() > MOST_BYTES {
+/// A script that was run, and its answers.
+#[derive(Drop)]
+pub struct Run {
+    pub script: String,
+    pub answers: String,
+}
+
+/// Compares the answers of a session to a script with those of a plain tree. It formats, or is done on the
+/// image that the runs before it left, of which the first formats.
+pub fn compare<'a>(
+    alloc: Global,
+    before: &'a [Run],
+    script: &str,
+    answers: &'a str,
+) -> Result<Compared, Memory> {
+    let Some(scripts) = read_scripts(alloc, before)? else {
         return Ok(NOTHING);
+    };
+    let Some(last) = read(alloc, script)? else {
+        return Ok(NOTHING);
+    };
+    let Some(layout) = layout_of(scripts.first().unwrap_or(&last)) else {
+        return Ok(NOTHING);
+    };
+    let mut following = Following::new(alloc, layout)?;
+    for (script, run) in scripts.iter().zip(before) {
+        following.rest = run.answers.as_str();
+        follow(alloc, &mut following, script.lines())?;
+        following.end_run();
     }
-    let Ok(script) = read_script(alloc, script.as_bytes()) else {
-        return Ok(NOTHING);
-    };
-    let Some(Line::Format(blocks)) = script.get(0) else {
-        return Ok(NOTHING);
-    };
-    let Some(layout) = Layout::of(*blocks) else {
-        return Ok(NOTHING);
-    };
-    let following = Following::new(alloc, layout, answers)?;
-    follow(alloc, following, script.lines())
+    following.rest = answers;
+    follow(alloc, &mut following, last.lines())
+}
+
+// A script that is in the grammar.
+fn read(alloc: Global, script: &str) -> Result<Option<Script>, Memory> {
+    if script.len() > MOST_BYTES {
+        return Ok(None);
+    }
+    match read_script(alloc, script.as_bytes()) {
+        Ok(script) => Ok(Some(script)),
+        Err(_) => Ok(None),
+    }
+}
+
+// The scripts of runs, where all of them are in the grammar.
+fn read_scripts(alloc: Global, runs: &[Run]) -> Result<Option<Vec<Script>>, Memory> {
+    let mut scripts = Vec::new(alloc);
+    for run in runs {
+        match read(alloc, run.script.as_str())? {
+            Some(script) => scripts.push(script)?,
+            None => return Ok(None),
+        }
+    }
+    Ok(Some(scripts))
+}
+
+// The numbers of the device that a script formats.
+fn layout_of(script: &Script) -> Option<Layout> {
+    match script.get(0) {
+        Some(Line::Format(blocks)) => Layout::of(*blocks),
+        _ => None,
+    }
 }
 
 // Goes along with all lines, up to the first that differs.
-fn follow<'a>(
+fn follow<'s>(
     alloc: Global,
-    following: Following<'a>,
-    lines: &'a [Line],
+    following: &mut Following<'s, '_>,
+    lines: &'s [Line],
 ) -> Result<Compared, Memory> {
-    let mut following = following;
     let mut compared = NOTHING;
     let mut number: u64 = 0;
     for line in lines {

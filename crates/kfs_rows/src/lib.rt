@@ -3,9 +3,11 @@
 //!
 //! Of the input, a line `-- NAME` begins a row, and the lines behind it are its script. A line
 //! `* N LINE` stands for N times LINE, and the lines between `* N {` and `}` for N times those lines,
-//! with the count from 00 in the place of `{}`, or from 0 in the place of `{n}`. A line `$ WORDS` gives the words of
-//! the run, which are `run img` else, and more of these:
+//! with the count from 00 in the place of `{}`, or from 0 in the place of `{n}`. A line `< FILE` stands for the lines of
+//! a file. A line `$ WORDS` gives the words of the run, which are `run img` else, and more of these:
 //!
+//! - `on=last`: the shelf holds the image that the row before left, and the plain tree goes on too. `on=nothing`: the shelf is
+//!   empty. `less=N`: it holds so many bytes less.
 //! - `read=N`, `write=N`, `put=N`: the N-th read, write and put fails.
 //! - `room=N`, `shelf=N`: so many bytes of room for the answers, and for the image.
 //! - `fold=1`: of answers that follow one another and are equal, one is written, with their number.

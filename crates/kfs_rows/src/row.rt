@@ -1,6 +1,6 @@
 // A row: the words of a run, its script, and what is told of it.
 use crate::fails::Fails;
-use crate::following::compare;
+use crate::following::{Run, compare};
 use crate::placing::{Group, add_line, folded, placed};
 use crate::run::{Ended, Setting};
 use crate::tables::{Table, Trial};
@@ -14,6 +14,25 @@ pub struct Outcome {
     pub status: u8,
     /// The text that is written of it.
     pub text: String,
+    /// What it leaves for a row that goes on from it.
+    pub history: History,
+}
+
+/// The runs over one image, one after the other, and the image that they left.
+#[derive(Drop)]
+pub struct History {
+    runs: Vec<Run>,
+    image: Text,
+}
+
+impl History {
+    /// Nothing was run, and there is no image.
+    pub fn nothing(alloc: Global) -> Result<History, Memory> {
+        Ok(History {
+            runs: Vec::new(alloc),
+            image: Text::new(alloc, b"")?,
+        })
+    }
 }
 
 /// A run over memory.
@@ -29,11 +48,13 @@ pub struct Row {
     is_folded: bool,
     group: Option<Group>,
     script: String,
+    last: History,
+    is_on_last: bool,
 }
 
 impl Row {
-    /// A row of this name without a script.
-    pub fn new(alloc: Global, name: &str) -> Result<Row, Memory> {
+    /// A row of this name without a script, behind one that left this.
+    pub fn new(alloc: Global, name: &str, last: History) -> Result<Row, Memory> {
         Ok(Row {
             name: String::from_str(alloc, name)?,
             setting: Setting::new(alloc)?,
@@ -45,6 +66,8 @@ impl Row {
             is_folded: false,
             group: None,
             script: String::new(alloc),
+            last,
+            is_on_last: false,
         })
     }
 
@@ -112,6 +135,16 @@ impl Row {
             Some(("every", table)) => self.take_table(table)?,
             Some(("work", number)) => self.works.push(number.parse().unwrap_or(0))?,
             Some(("fold", _)) => self.is_folded = true,
+            Some(("on", "last")) => {
+                let image = self.last.image.copy(alloc)?;
+                self.setting.held = image;
+                self.is_on_last = true;
+            }
+            Some(("on", _)) => self.setting.held = Text::new(alloc, b"")?,
+            Some(("less", number)) => {
+                let shorter = without_end(alloc, &self.setting.held, number.parse().unwrap_or(0))?;
+                self.setting.held = shorter;
+            }
             _ => self.setting.words.push(Text::new(alloc, word.as_bytes())?)?,
         }
         Ok(())
@@ -134,10 +167,9 @@ impl Row {
     }
 
     /// What the row comes to.
-    pub fn outcome(&self, alloc: Global) -> Result<Outcome, Memory> {
+    pub fn outcome(self, alloc: Global) -> Result<Outcome, Memory> {
         let name = &self.name;
         let mut text = format!(in alloc; "-- {name}\n")?;
-        let mut status = 0;
         if let Some(front) = self.front {
             self.tell_each(alloc, front, &mut text)?;
         } else if self.cuts > 0 {
@@ -145,26 +177,72 @@ impl Row {
         } else if !self.tables.is_empty() {
             self.tell_tables(alloc, &mut text)?;
         } else {
-            status = self.tell_run(alloc, &mut text)?;
-            self.tell_works(alloc, &mut text)?;
+            return self.run_once(alloc, text);
         }
-        Ok(Outcome { status, text })
+        Ok(Outcome {
+            status: 0,
+            text,
+            history: History::nothing(alloc)?,
+        })
+    }
+
+    // What the row comes to whose script is run as it is, behind this text.
+    fn run_once(self, alloc: Global, text: String) -> Result<Outcome, Memory> {
+        let mut text = text;
+        let ended = self.run(alloc, self.script.as_str())?;
+        self.tell_run(alloc, &ended, &mut text)?;
+        self.tell_works(alloc, &mut text)?;
+        Ok(Outcome {
+            status: ended.status,
+            text,
+            history: self.into_history(alloc, &ended)?,
+        })
+    }
+
+    // What is left behind the row's run: the runs over its image, and the image. A run that did nothing isn't
+    // one of them.
+    fn into_history(self, alloc: Global, ended: &Ended) -> Result<History, Memory> {
+        let Row {
+            script,
+            last,
+            is_on_last,
+            ..
+        } = self;
+        let mut history = if is_on_last {
+            last
+        } else {
+            History::nothing(alloc)?
+        };
+        if ended.status == 0 {
+            let answers = String::from_str(alloc, ended.text())?;
+            history.runs.push(Run { script, answers })?;
+        }
+        history.image = Text::new(alloc, ended.held())?;
+        Ok(history)
+    }
+
+    // The runs that left the image on which the row is run.
+    fn before(&self) -> &[Run] {
+        if self.is_on_last {
+            self.last.runs.as_slice()
+        } else {
+            &[]
+        }
     }
 
     // Adds the status and the answers of the run.
-    fn tell_run(&self, alloc: Global, text: &mut String) -> Result<u8, Memory> {
-        let ended = self.run(alloc, self.script.as_str())?;
+    fn tell_run(&self, alloc: Global, ended: &Ended, text: &mut String) -> Result<(), Memory> {
         let status = ended.status;
         let line = format!(in alloc; "= {status}")?;
         add_line(text, line.as_str())?;
         self.tell_answers(alloc, ended.text(), text)?;
         if status == 0 {
-            tell_difference(alloc, self.script.as_str(), ended.text(), text)?;
+            self.tell_difference(alloc, self.script.as_str(), ended.text(), text)?;
         }
-        if status != 5 && !self.is_shelf_right(alloc, &ended)? {
+        if status != 5 && !self.is_shelf_right(alloc, ended)? {
             text.push_str("the shelf holds something else\n")?;
         }
-        Ok(status)
+        Ok(())
     }
 
     // Adds the answers, and a bar where they break off within a line.
@@ -186,7 +264,7 @@ impl Row {
         if ended.status == 0 && self.setting.is_run() {
             ended.is_image_held(alloc)
         } else {
-            Ok(ended.is_shelf_left())
+            Ok(self.setting.is_shelf_left(ended))
         }
     }
 
@@ -199,7 +277,7 @@ impl Row {
             if ended.status != 0 {
                 text.push_str("the status differs with work\n")?;
             }
-            tell_difference(alloc, script.as_str(), ended.text(), text)?;
+            self.tell_difference(alloc, script.as_str(), ended.text(), text)?;
         }
         Ok(())
     }
@@ -234,7 +312,7 @@ impl Row {
             let told = format!(in alloc; "= {status} {last}\n")?;
             text.push_str(told.as_str())?;
             if status == 0 {
-                tell_difference(alloc, script.as_str(), ended.text(), text)?;
+                self.tell_difference(alloc, script.as_str(), ended.text(), text)?;
             }
         }
         Ok(())
@@ -269,20 +347,28 @@ impl Row {
         let told = mounted.last().unwrap_or("none");
         text.push(' ')?;
         text.push_str(told)?;
-        tell_difference(alloc, script.as_str(), ended.text(), text)
+        self.tell_difference(alloc, script.as_str(), ended.text(), text)
+    }
+
+    // Adds where the plain tree answers otherwise, if it does.
+    fn tell_difference(
+        &self,
+        alloc: Global,
+        script: &str,
+        got: &str,
+        text: &mut String,
+    ) -> Result<(), Memory> {
+        if let Some(line) = compare(alloc, self.before(), script, got)?.differs_at {
+            let told = format!(in alloc; "the plain tree differs at {line}\n")?;
+            text.push_str(told.as_str())?;
+        }
+        Ok(())
     }
 }
 
-// Adds where the plain tree answers otherwise, if it does.
-fn tell_difference(
-    alloc: Global,
-    script: &str,
-    got: &str,
-    text: &mut String,
-) -> Result<(), Memory> {
-    if let Some(line) = compare(alloc, script, got)?.differs_at {
-        let told = format!(in alloc; "the plain tree differs at {line}\n")?;
-        text.push_str(told.as_str())?;
-    }
-    Ok(())
+// A text without so many bytes at its end.
+fn without_end(alloc: Global, text: &Text, less: usize) -> Result<Text, Memory> {
+    let bytes = text.bytes();
+    let length = bytes.len().saturating_sub(less);
+    Text::new(alloc, bytes.get(..length).unwrap_or(b""))
 }

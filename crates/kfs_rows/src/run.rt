@@ -5,7 +5,7 @@ use kv_base::{Memory, Text};
 use nand_mem::MemNand;
 use std::alloc::Global;
 
-// What the shelf holds before a run.
+// What the shelf holds before a run where a row says nothing of it: no image.
 const HELD: &[u8] = b"old";
 
 /// What a run comes to.
@@ -27,11 +27,6 @@ impl Ended {
         self.shelf.bytes()
     }
 
-    /// Whether the shelf holds what it held.
-    pub fn is_shelf_left(&self) -> bool {
-        self.held() == HELD
-    }
-
     /// Whether the shelf holds an image that is read and written again as the same bytes.
     pub fn is_image_held(&self, alloc: Global) -> Result<bool, Memory> {
         match MemNand::from_image(alloc, self.held()) {
@@ -41,10 +36,11 @@ impl Ended {
     }
 }
 
-/// The words of a run and the room that it has.
+/// The words of a run, what the shelf holds before it, and the room that it has.
 #[derive(Drop)]
 pub struct Setting {
     pub words: Vec<Text>,
+    pub held: Text,
     pub shelf: usize,
     pub room: usize,
 }
@@ -63,6 +59,7 @@ impl Setting {
         words.push(Text::new(alloc, b"img")?)?;
         Ok(Setting {
             words,
+            held: Text::new(alloc, HELD)?,
             shelf: SHELF,
             room: ROOM,
         })
@@ -73,9 +70,14 @@ impl Setting {
         matches!(self.words.first(), Some(word) if word.bytes() == b"run".as_slice())
     }
 
+    /// Whether the shelf holds after a run what it held before it.
+    pub fn is_shelf_left(&self, ended: &Ended) -> bool {
+        ended.held() == self.held.bytes()
+    }
+
     /// Runs a script with these words, while these calls fail.
     pub fn run(&self, alloc: Global, script: &str, fails: &Fails) -> Result<Ended, Memory> {
-        let mut shelf = MemShelf::new(alloc, HELD, self.shelf, fails.puts.as_slice())?;
+        let mut shelf = MemShelf::new(alloc, self.held.bytes(), self.shelf, fails.puts.as_slice())?;
         let mut source = MemSource::new(alloc, script.as_bytes(), fails.reads.as_slice())?;
         let mut sink = MemSink::new(alloc, self.room, fails.writes.as_slice())?;
         let ending = run_words(alloc, &self.words, &mut shelf, &mut source);

@@ -141,7 +141,7 @@ impl<'a> Trial<'a> {
         if ended.status != 0 {
             return wrong_point(alloc, false, "the status");
         }
-        let compared = compare(alloc, script.as_str(), ended.text())?;
+        let compared = compare(alloc, &[], script.as_str(), ended.text())?;
         let is_met = compared.first_down <= count_lines(self.script);
         match compared.differs_at {
             None => Ok(Point {
@@ -165,7 +165,7 @@ impl<'a> Trial<'a> {
             .run(alloc, self.script, &Fails::one(alloc, side, number)?)?;
         let is_met = ended.status == side.status();
         let is_right = if is_met {
-            is_left_right(side, &ended, &whole)
+            self.is_left_right(side, &ended, &whole)
         } else {
             ended.status == whole.status && ended.text() == whole.text()
         };
@@ -176,6 +176,17 @@ impl<'a> Trial<'a> {
             })
         } else {
             wrong_point(alloc, is_met, "something else is left")
+        }
+    }
+
+    // Whether a run in which a side failed left what it may leave: no answers, or a first part of them where
+    // the sink failed, behind the image.
+    fn is_left_right(&self, side: Side, ended: &Ended, whole: &Ended) -> bool {
+        match side {
+            Side::Source | Side::Shelf => {
+                ended.text().is_empty() && self.setting.is_shelf_left(ended)
+            }
+            Side::Sink => { whole.text().starts_with(ended.text()) && ended.held() == whole.held() }
         }
     }
 }
@@ -194,13 +205,4 @@ fn count_lines(script: &str) -> u64 {
         count = count.saturating_add(1);
     }
     count
-}
-
-// Whether a run in which a side failed left what it may leave: no answers, or a first part of them where
-// the sink failed, behind the image.
-fn is_left_right(side: Side, ended: &Ended, whole: &Ended) -> bool {
-    match side {
-        Side::Source | Side::Shelf => ended.text().is_empty() && ended.is_shelf_left(),
-        Side::Sink => { whole.text().starts_with(ended.text()) && ended.held() == whole.held() }
-    }
 }
