@@ -10,7 +10,7 @@ use Rattle.kfs_model.specs.Tree.{Place, Name, Tree, with_new, charge, chunks, ch
 use Rattle.kfs_shows.specs.Shows.{ShowsTree, inode_of}
 use Rattle.kfs_shows.proofs.Making.{IsFreePlace, IsFresh, with_objects, still_tree, still_shows, absent}
 use Rattle.kfs_shows.proofs.Charging.{sum_by-put, length-put_new}
-use Rattle.kfs_tx.specs.Run.{Run, IsReady, seen, changed_keys}
+use Rattle.kfs_tx.specs.Tx.{Tx, IsReady, seen, changed_keys}
 use Rattle.kfs_tx.proofs.Seeing.{ready_put, seen_put, keys_put}
 use Rattle.kfs_core.specs.Stands.{Stands}
 use Rattle.kfs_core.specs.Flat.{Where}
@@ -38,7 +38,7 @@ free_place t place w spot none =
       },
     )
 
-module _ (old : Run) (kind p : ℕ) (name : Name) (ready : IsReady old) where
+module _ (old : Tx) (kind p : ℕ) (name : Name) (ready : IsReady old) where
   pub entry_ready : IsReady (with_entry old kind p name)
   entry_ready = ready_put (with_inode old kind) (entry_key p name) (entry_value old.next) (ready_put old (inode_key old.next) (inode_value kind 0) ready)
 

@@ -21,7 +21,7 @@ use Rattle.kfs_shows.specs.Laws.{without_node, DropsNode}
 use Rattle.kfs_shows.proofs.Dropping.{still_tree, still_shows, is_kept}
 use Rattle.kfs_shows.proofs.KeysApart.{kinds}
 use Rattle.kfs_shows.proofs.Sweeping.{nameless_test}
-use Rattle.kfs_tx.specs.Run.{Run, HasCause, Fallen, CommitFault, seen, started, committed, deleted_in}
+use Rattle.kfs_tx.specs.Tx.{Tx, HasCause, Fallen, CommitFault, seen, started, committed, deleted_in}
 use Rattle.kfs_tx.proofs.Falling.{commit_falls, delete_falls}
 use Rattle.kfs_file.proofs.Failing.{fallen_before}
 use Rattle.kfs_file.specs.Contents.{Fails}
@@ -107,7 +107,7 @@ has_cause_before m pending faults.Off new h = h
 has_cause_before m pending faults.Failed new h = h
 has_cause_before m pending faults.Memory new h = h
 
-module _ (old new : Run) (key : List ℕ) (node kind size : ℕ) (fresh : IsFresh old) (there : IsSome (objects.get (seen old) key)) (is : key ≡ orphan_key node) (low : node < 2 ^ 64) (inode : inode_in (seen old) node ≡ Some (kind, size)) (short : size ≤ 2 ^ 20) (goes : Goes old node size new) where
+module _ (old new : Tx) (key : List ℕ) (node kind size : ℕ) (fresh : IsFresh old) (there : IsSome (objects.get (seen old) key)) (is : key ≡ orphan_key node) (low : node < 2 ^ 64) (inode : inode_in (seen old) node ≡ Some (kind, size)) (short : size ≤ 2 ^ 20) (goes : Goes old node size new) where
   follows : Follows old (deleted_in new key) (chunks_for size + 1 + 1)
   follows = follows_deleted old new key (chunks_for size + 1) (goes_follows old new node size goes)
 
@@ -122,10 +122,10 @@ module _ (old new : Run) (key : List ℕ) (node kind size : ℕ) (fresh : IsFres
         dropped (seen old) t k node tree shows low v.0 at (seen (deleted_in new key)) reach (subst (λ q. DropsNode (seen old) (seen (deleted_in new q)) node) (sym is) gone);
   }
 
-  pub one_cleared : (r : Run) → r ≡ committed (deleted_in new key) → Clears old r
+  pub one_cleared : (r : Tx) → r ≡ committed (deleted_in new key) → Clears old r
   one_cleared r done =
       let e : r ≡ with_stable old (seen (deleted_in new key)) = done ∙ committed_fresh old (deleted_in new key) (chunks_for size + 1 + 1) fresh follows in
-      let stands : r.machine.stable ≡ seen (deleted_in new key) = ap (λ (x : Run). x.machine.stable) e in
+      let stands : r.machine.stable ≡ seen (deleted_in new key) = ap (λ (x : Tx). x.machine.stable) e in
       record { same = e ∙ ap (with_stable old) (sym stands); keeps = keeps_to _ _ _ stands one_kept }
 
   pub commit_clears : has_room (deleted_in new key).machine (seen (deleted_in new key)) ≡ true → (fault : DeviceFault) (after : Machine) → CommitFault (deleted_in new key) fault after → ClearFails old fault after
@@ -134,55 +134,55 @@ module _ (old new : Run) (key : List ℕ) (node kind size : ℕ) (fresh : IsFres
       let e = commit_either r fault after (follows.ready (fresh_ready old fresh)) h in
       let same = follows.same in
       record {
-        cause = has_cause_before old.machine r.machine.pending fault after (subst (λ (x : Run). HasCause x.machine fault after) same (cause_either r.machine (seen r) fault after (commit_falls r fault after (follows.ready (fresh_ready old fresh)) room h)));
+        cause = has_cause_before old.machine r.machine.pending fault after (subst (λ (x : Tx). HasCause x.machine fault after) same (cause_either r.machine (seen r) fault after (commit_falls r fault after (follows.ready (fresh_ready old fresh)) room h)));
         keeps = elim (e.0) [
-          | inl before ↦ keeps_to _ _ _ (before ∙ ap (λ (x : Run). x.machine.stable) same) (keeps_same old.machine.stable)
+          | inl before ↦ keeps_to _ _ _ (before ∙ ap (λ (x : Tx). x.machine.stable) same) (keeps_same old.machine.stable)
           | inr after' ↦ keeps_to _ _ _ after' one_kept
         ];
         bounds = record {
-          most_cuts = e.1.most_cuts ∙ ap (λ (x : Run). x.machine.most_cuts) same;
-          most_faults = e.1.most_faults ∙ ap (λ (x : Run). x.machine.most_faults) same;
-          room_keys = e.1.room_keys ∙ ap (λ (x : Run). x.machine.room_keys) same;
-          room_pages = e.1.room_pages ∙ ap (λ (x : Run). x.machine.room_pages) same;
+          most_cuts = e.1.most_cuts ∙ ap (λ (x : Tx). x.machine.most_cuts) same;
+          most_faults = e.1.most_faults ∙ ap (λ (x : Tx). x.machine.most_faults) same;
+          room_keys = e.1.room_keys ∙ ap (λ (x : Tx). x.machine.room_keys) same;
+          room_pages = e.1.room_pages ∙ ap (λ (x : Tx). x.machine.room_pages) same;
         };
       }
 
 -- ---- failures between
 
-pub fell : (old : Run) (fault : DeviceFault) (new : Machine) → Fallen old.machine fault old.machine.stable new → ClearFails old fault new
+pub fell : (old : Tx) (fault : DeviceFault) (new : Machine) → Fallen old.machine fault old.machine.stable new → ClearFails old fault new
 fell old fault new f = record { cause = f.cause; keeps = keeps_to _ _ _ f.stable (keeps_same old.machine.stable); bounds = f.bounds }
 
-pub fails_clear : (old : Run) (keys : ℕ) (fault : DeviceFault) (new : Machine) → IsFresh old → keys ≤ 640 → Fails old keys fault new → ClearFails old fault new
+pub fails_clear : (old : Tx) (keys : ℕ) (fault : DeviceFault) (new : Machine) → IsFresh old → keys ≤ 640 → Fails old keys fault new → ClearFails old fault new
 fails_clear old keys fault new fresh few h = fell old fault new (h.fallen (fresh_ready old fresh) (let z = fresh_keys old fresh in omega arith))
 
 -- the deletion of the orphan object failed
-pub delete_clears : (old mid : Run) (node size : ℕ) → Goes old node size mid → IsFresh old → size ≤ 2 ^ 20 → (key : List ℕ) (fault : DeviceFault) (after : Machine) → DeleteFault mid.machine mid.tx key fault after → ClearFails old fault after
+pub delete_clears : (old mid : Tx) (node size : ℕ) → Goes old node size mid → IsFresh old → size ≤ 2 ^ 20 → (key : List ℕ) (fault : DeviceFault) (after : Machine) → DeleteFault mid.machine mid.id key fault after → ClearFails old fault after
 delete_clears old mid node size goes fresh short key fault after h =
     let follows = goes_follows old mid node size goes in
     let ready = fresh_ready old fresh in
     let few = follows.few ready in
     let none = fresh_keys old fresh in
     let fallen = delete_falls mid key fault after (follows.ready ready) (omega arith) h in
-    fell old fault after (fallen_before old.machine mid.machine.pending fault after (subst (λ (x : Run). Fallen x.machine fault x.machine.stable after) follows.same fallen))
+    fell old fault after (fallen_before old.machine mid.machine.pending fault after (subst (λ (x : Tx). Fallen x.machine fault x.machine.stable after) follows.same fallen))
 
 -- ---- one after the other
 
-pub clears_both : (old mid new : Run) → Clears old mid → Clears mid new → Clears old new
+pub clears_both : (old mid new : Tx) → Clears old mid → Clears mid new → Clears old new
 clears_both old mid new a b = record {
-  same = b.same ∙ ap (λ (x : Run). with_stable x new.machine.stable) a.same;
+  same = b.same ∙ ap (λ (x : Tx). with_stable x new.machine.stable) a.same;
   keeps = keeps_both _ _ _ a.keeps b.keeps;
 }
 
 -- a failure after some of them
-pub clear_fails_after : (old mid : Run) (fault : DeviceFault) (new : Machine) → Clears old mid → ClearFails mid fault new → ClearFails old fault new
+pub clear_fails_after : (old mid : Tx) (fault : DeviceFault) (new : Machine) → Clears old mid → ClearFails mid fault new → ClearFails old fault new
 clear_fails_after old mid fault new a f = record {
-  cause = cause_over old.machine mid.machine.stable fault new (subst (λ (x : Run). HasCause x.machine fault new) a.same f.cause);
+  cause = cause_over old.machine mid.machine.stable fault new (subst (λ (x : Tx). HasCause x.machine fault new) a.same f.cause);
   keeps = keeps_both _ _ _ a.keeps f.keeps;
   bounds = record {
-    most_cuts = f.bounds.most_cuts ∙ ap (λ (x : Run). x.machine.most_cuts) a.same;
-    most_faults = f.bounds.most_faults ∙ ap (λ (x : Run). x.machine.most_faults) a.same;
-    room_keys = f.bounds.room_keys ∙ ap (λ (x : Run). x.machine.room_keys) a.same;
-    room_pages = f.bounds.room_pages ∙ ap (λ (x : Run). x.machine.room_pages) a.same;
+    most_cuts = f.bounds.most_cuts ∙ ap (λ (x : Tx). x.machine.most_cuts) a.same;
+    most_faults = f.bounds.most_faults ∙ ap (λ (x : Tx). x.machine.most_faults) a.same;
+    room_keys = f.bounds.room_keys ∙ ap (λ (x : Tx). x.machine.room_keys) a.same;
+    room_pages = f.bounds.room_pages ∙ ap (λ (x : Tx). x.machine.room_pages) a.same;
   };
 }
   where
@@ -236,7 +236,7 @@ module _ (old new : Objects) (kept : Keeps old new) (none : NoOrphans new) where
 
 -- ---- a mount
 
-module _ (m : Machine) (changes next : ℕ) (r : Run) (up : m.up ≡ true) (idle : m.pending ≡ none_open) (clears : Clears (started m changes next) r) where
+module _ (m : Machine) (changes next : ℕ) (r : Tx) (up : m.up ≡ true) (idle : m.pending ≡ none_open) (clears : Clears (started m changes next) r) where
   pub still_fresh : IsFresh r
   still_fresh = subst IsFresh (sym clears.same) (fresh_over (started m changes next) r.machine.stable (fresh_started m changes next up idle))
 

@@ -16,7 +16,7 @@ use Rattle.kfs_shows.specs.Shows.{ShowsTree, ShowsChunk, inode_of}
 use Rattle.kfs_shows.specs.Laws.{DropsNode}
 use Rattle.kfs_shows.proofs.Lookups.{key_removed, key_kept}
 use Rattle.kfs_shows.proofs.KeysApart.{kinds, same_chunk}
-use Rattle.kfs_tx.specs.Run.{Run, IsReady, seen, deleted_in}
+use Rattle.kfs_tx.specs.Tx.{Tx, IsReady, seen, deleted_in}
 use Rattle.kfs_tx.proofs.Seeing.{ready_deleted, seen_deleted, keys_deleted}
 use Rattle.kfs_tx.proofs.Falling.{delete_falls, only_memory_falls}
 use Rattle.kfs_file.specs.Contents.{Fails, RemoveFault, ChangesAtMost, pending_of}
@@ -25,7 +25,7 @@ use Rattle.kfs_core.specs.Removing.{Goes, chunks_for}
 use Rattle.kfs_core.proofs.Ways.{kind_of, read_inode_of}
 
 -- a deletion that failed
-pub deletion_fails : (r : Run) (key : List ℕ) (fault : DeviceFault) (new : Machine) → RemoveFault r key fault new → Fails r 1 fault new
+pub deletion_fails : (r : Tx) (key : List ℕ) (fault : DeviceFault) (new : Machine) → RemoveFault r key fault new → Fails r 1 fault new
 deletion_fails r key fault new h = record {
   cause = h.1;
   fallen = λ ready room. elim (h.0) [
@@ -34,27 +34,27 @@ deletion_fails r key fault new h = record {
   ];
 }
 
--- what a run keeps over deletions
-pub record Follows (old new : Run) (most : ℕ) : Type 0 where
+-- what a tx keeps over deletions
+pub record Follows (old new : Tx) (most : ℕ) : Type 0 where
   pub ready : IsReady old → IsReady new
   pub few : ChangesAtMost old most new
   pub same : new ≡ pending_of new old
   pub slots : length new.machine.pending ≡ length old.machine.pending
 
-pub follows_deleted : (old mid : Run) (key : List ℕ) (most : ℕ) → Follows old mid most → Follows old (deleted_in mid key) (most + 1)
+pub follows_deleted : (old mid : Tx) (key : List ℕ) (most : ℕ) → Follows old mid most → Follows old (deleted_in mid key) (most + 1)
 follows_deleted old mid key most h = record {
   ready = λ r. ready_deleted mid key (h.ready r);
   few = λ r. let a = h.few r in let b = keys_deleted mid key (h.ready r) in omega arith;
-  same = ap (λ (r : Run). record r { machine = record r.machine { pending = (deleted_in mid key).machine.pending } }) h.same;
-  slots = length-set mid.machine.pending mid.tx (Some (objects.insert (unwrap_or (changes_of mid.machine mid.tx) objects.empty) key None)) ∙ h.slots;
+  same = ap (λ (r : Tx). record r { machine = record r.machine { pending = (deleted_in mid key).machine.pending } }) h.same;
+  slots = length-set mid.machine.pending mid.id (Some (objects.insert (unwrap_or (changes_of mid.machine mid.id) objects.empty) key None)) ∙ h.slots;
 }
 
-pub goes_follows : (old new : Run) (node size : ℕ) → Goes old node size new → Follows old new (chunks_for size + 1)
-goes_follows old new node size h = subst (λ (r : Run). Follows old r (chunks_for size + 1)) (sym h.inode)
+pub goes_follows : (old new : Tx) (node size : ℕ) → Goes old node size new → Follows old new (chunks_for size + 1)
+goes_follows old new node size h = subst (λ (r : Tx). Follows old r (chunks_for size + 1)) (sym h.inode)
     (follows_deleted old h.mid (inode_key node) (chunks_for size) (record { ready = h.chunks.ready; few = h.few; same = h.chunks.same; slots = h.chunks.slots }))
 
 -- the objects after a node went
-module _ (old new : Run) (node size : ℕ) (goes : Goes old node size new) (ready : IsReady old) (low : node < 2 ^ 64) (short : size ≤ 2 ^ 20) where
+module _ (old new : Tx) (node size : ℕ) (goes : Goes old node size new) (ready : IsReady old) (low : node < 2 ^ 64) (short : size ≤ 2 ^ 20) where
   seen_now : seen new ≡ objects.remove (seen goes.mid) (inode_key node)
   seen_now = ap seen goes.inode ∙ seen_deleted goes.mid (inode_key node) (goes.chunks.ready ready)
 
@@ -93,7 +93,7 @@ none_past m t n x kind size c tree shows low is inode lt past = by x is (objects
         absurd (omega (arith, a.0, a.2))
 
 -- a node's objects are dropped, its orphan object with them
-pub drops : (old new : Run) (node size : ℕ) → Goes old node size new → IsReady old → node < 2 ^ 64 → size ≤ 2 ^ 20 → ((c : ℕ) → c < 2 ^ 32 → chunks_for size ≤ c → objects.get (seen old) (chunk_key node c) ≡ None) → DropsNode (seen old) (seen (deleted_in new (orphan_key node))) node
+pub drops : (old new : Tx) (node size : ℕ) → Goes old node size new → IsReady old → node < 2 ^ 64 → size ≤ 2 ^ 20 → ((c : ℕ) → c < 2 ^ 32 → chunks_for size ≤ c → objects.get (seen old) (chunk_key node c) ≡ None) → DropsNode (seen old) (seen (deleted_in new (orphan_key node))) node
 drops old new node size goes ready low short past = record {
   inode = kept (inode_key node) (kinds 105 111 _ _ (λ e. omega arith)) ∙ inode_gone old new node size goes ready low short;
   orphan = ap (λ m. objects.get m (orphan_key node)) now ∙ key_removed (seen new) (orphan_key node);

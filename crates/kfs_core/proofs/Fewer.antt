@@ -13,7 +13,7 @@ use Rattle.kfs_objects.specs.Keys.{inode_key, chunk_key, orphan_key}
 use Rattle.kfs_shows.proofs.Lookups.{decide_bytes, same_bytes, key_kept}
 use Rattle.kfs_shows.proofs.KeysApart.{kinds}
 use Rattle.kfs_shows.proofs.Counting.{In, few_kept, kept_all}
-use Rattle.kfs_tx.specs.Run.{Run, IsReady, seen, committed, deleted_in}
+use Rattle.kfs_tx.specs.Tx.{Tx, IsReady, seen, committed, deleted_in}
 use Rattle.kfs_tx.proofs.Seeing.{ready_deleted, seen_deleted, seen_committed}
 use Rattle.kfs_core.specs.Removing.{Goes, chunks_for}
 use Rattle.kfs_core.proofs.Dropped.{goes_follows, inode_gone, chunk_gone, others_kept}
@@ -70,7 +70,7 @@ chunk_or q node (suc k) = elim (decide_bytes q (chunk_key node k)) [
   ]
 ]
 
-module _ (old new : Run) (node size : ℕ) (goes : Goes old node size new) (ready : IsReady old) (low : node < 2 ^ 64) (short : size ≤ 2 ^ 20) where
+module _ (old new : Tx) (node size : ℕ) (goes : Goes old node size new) (ready : IsReady old) (low : node < 2 ^ 64) (short : size ≤ 2 ^ 20) where
   seen_now : seen new ≡ objects.remove (seen goes.mid) (inode_key node)
   seen_now = ap seen goes.inode ∙ seen_deleted goes.mid (inode_key node) (goes.chunks.ready ready)
 
@@ -83,7 +83,7 @@ module _ (old new : Run) (node size : ℕ) (goes : Goes old node size new) (read
     ]
   ]
 
-  pub goes_fewer : (key : List ℕ) → key ≡ orphan_key node → IsSome (objects.get (seen old) key) → (r : Run) → r ≡ committed (deleted_in new key) → objects.len (seen r) < objects.len (seen old)
+  pub goes_fewer : (key : List ℕ) → key ≡ orphan_key node → IsSome (objects.get (seen old) key) → (r : Tx) → r ≡ committed (deleted_in new key) → objects.len (seen r) < objects.len (seen old)
   goes_fewer key is there r done =
       let v = some_of _ there in
       let held = (goes_follows old new node size goes).ready ready in

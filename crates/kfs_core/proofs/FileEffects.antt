@@ -13,7 +13,7 @@ use Rattle.kfs_shows.specs.Laws.{PutsContent}
 use Rattle.kfs_shows.proofs.Content.{still_tree, still_shows}
 use Rattle.kfs_shows.proofs.KeysApart.{kinds}
 use Rattle.kfs_shows.proofs.Lookups.{key_put, key_other}
-use Rattle.kfs_tx.specs.Run.{Run, IsReady, SameBounds, seen, changed_keys}
+use Rattle.kfs_tx.specs.Tx.{Tx, IsReady, SameBounds, seen, changed_keys}
 use Rattle.kfs_tx.proofs.Seeing.{ready_put, seen_put, keys_put}
 use Rattle.kfs_file.specs.Contents.{touched}
 use Rattle.kfs_core.specs.Stands.{Stands}
@@ -30,8 +30,8 @@ spanned_is p j some = omega arith
 pub grown_is : (b : List ℕ) (p : ℕ) (given : List ℕ) → length (written b p given) ≡ grown (length b) p (length given)
 grown_is b p given = let h = length_written b p given in omega arith
 
--- what putting the bytes leaves of a run's numbers
-pub record SameNumbers (old new : Run) : Type 0 where
+-- what putting the bytes leaves of a tx's numbers
+pub record SameNumbers (old new : Tx) : Type 0 where
   pub changes : new.changes ≡ old.changes
   pub next : new.next ≡ old.next
   pub since : new.since ≡ old.since
@@ -42,23 +42,23 @@ pub record SameNumbers (old new : Run) : Type 0 where
   pub faults : new.machine.faults ≡ old.machine.faults
   pub bounds : SameBounds old.machine new.machine
 
-module _ (old put : Run) (n p : ℕ) (given : List ℕ) (puts : PutsBytes old n p given put) where
-  -- the run stays but for its pending changes
+module _ (old put : Tx) (n p : ℕ) (given : List ℕ) (puts : PutsBytes old n p given put) where
+  -- the tx stays but for its pending changes
   pub put_numbers : (size : ℕ) → SameNumbers old (with_length put n size)
   put_numbers size = let e = puts.writes.same in record {
-    changes = ap (λ (r : Run). r.changes) e;
-    next = ap (λ (r : Run). r.next) e;
-    since = ap (λ (r : Run). r.since) e;
-    weight = ap (λ (r : Run). r.weight) e;
-    up = ap (λ (r : Run). r.machine.up) e;
-    stable = ap (λ (r : Run). r.machine.stable) e;
-    cuts = ap (λ (r : Run). r.machine.cuts) e;
-    faults = ap (λ (r : Run). r.machine.faults) e;
+    changes = ap (λ (r : Tx). r.changes) e;
+    next = ap (λ (r : Tx). r.next) e;
+    since = ap (λ (r : Tx). r.since) e;
+    weight = ap (λ (r : Tx). r.weight) e;
+    up = ap (λ (r : Tx). r.machine.up) e;
+    stable = ap (λ (r : Tx). r.machine.stable) e;
+    cuts = ap (λ (r : Tx). r.machine.cuts) e;
+    faults = ap (λ (r : Tx). r.machine.faults) e;
     bounds = record {
-      most_cuts = ap (λ (r : Run). r.machine.most_cuts) e;
-      most_faults = ap (λ (r : Run). r.machine.most_faults) e;
-      room_keys = ap (λ (r : Run). r.machine.room_keys) e;
-      room_pages = ap (λ (r : Run). r.machine.room_pages) e;
+      most_cuts = ap (λ (r : Tx). r.machine.most_cuts) e;
+      most_faults = ap (λ (r : Tx). r.machine.most_faults) e;
+      room_keys = ap (λ (r : Tx). r.machine.room_keys) e;
+      room_pages = ap (λ (r : Tx). r.machine.room_pages) e;
     };
   }
 
@@ -86,7 +86,7 @@ module _ (old put : Run) (n p : ℕ) (given : List ℕ) (puts : PutsBytes old n 
       abbrev pub new_tree : Tree
       new_tree = with_node t n (File new_bytes)
 
-      abbrev pub new_run : Run
+      abbrev pub new_run : Tx
       new_run = with_length put n (grown (length bytes) p (length given))
 
       low : n < 2 ^ 64

@@ -10,7 +10,7 @@ use Rattle.kfs_objects.specs.Records.{inode_value}
 use Rattle.kfs_objects.proofs.KeyLaws.{length_be64}
 use Rattle.kfs_model.specs.Tree.{greatest_length}
 use Rattle.kfs_model.specs.Change.{spanned}
-use Rattle.kfs_tx.specs.Run.{Run, IsReady, SameBounds, Caused, HasCause, Fallen, seen, changed_keys, is_full, with_super}
+use Rattle.kfs_tx.specs.Tx.{Tx, IsReady, SameBounds, Caused, HasCause, Fallen, seen, changed_keys, is_full, with_super}
 use Rattle.kfs_tx.proofs.Falling.{put_falls, change_falls}
 use Rattle.kfs_file.specs.Contents.{touched, pending_of}
 use Rattle.kfs_file.proofs.Failing.{cause_before}
@@ -19,25 +19,25 @@ use Rattle.kfs_core.specs.Room.{grown}
 use Rattle.kfs_core.proofs.FileEffects.{put_ready, length_ready, length_keys, put_numbers}
 
 -- a cause after the bytes are put is one from the beginning on
-caused_from : (old put : Run) (fault : DeviceFault) (new : Machine) → put ≡ pending_of put old → Caused put.machine fault new → Caused old.machine fault new
-caused_from old put fault new same h = cause_before old.machine put.machine.pending fault new (subst (λ (r : Run). Caused r.machine fault new) same h)
+caused_from : (old put : Tx) (fault : DeviceFault) (new : Machine) → put ≡ pending_of put old → Caused put.machine fault new → Caused old.machine fault new
+caused_from old put fault new same h = cause_before old.machine put.machine.pending fault new (subst (λ (r : Tx). Caused r.machine fault new) same h)
 
-pub write_caused : (old : Run) (n size p : ℕ) (given : List ℕ) (fault : DeviceFault) (new : Machine) → WriteFault old n size p given fault new → Caused old.machine fault new
+pub write_caused : (old : Tx) (n size p : ℕ) (given : List ℕ) (fault : DeviceFault) (new : Machine) → WriteFault old n size p given fault new → Caused old.machine fault new
 write_caused old n size p given fault new (inl h) = h.cause
 write_caused old n size p given fault new (inr (put, puts, inl h)) = caused_from old put fault new puts.writes.same h.1
 write_caused old n size p given fault new (inr (put, puts, inr (inl h))) = caused_from old put fault new puts.writes.same h.1
 write_caused old n size p given fault new (inr (put, puts, inr (inr h))) = caused_from old put fault new puts.writes.same h.1.1
 
 -- so is what stands
-fallen_from : (old put : Run) (fault : DeviceFault) (stands : Objects) (new : Machine) → put ≡ pending_of put old → HasCause put.machine fault new → new.stable ≡ stands → SameBounds put.machine new → Fallen old.machine fault stands new
+fallen_from : (old put : Tx) (fault : DeviceFault) (stands : Objects) (new : Machine) → put ≡ pending_of put old → HasCause put.machine fault new → new.stable ≡ stands → SameBounds put.machine new → Fallen old.machine fault stands new
 fallen_from old put fault stands new same cause is bounds = record {
-  cause = by fault (subst (λ (r : Run). HasCause r.machine fault new) same cause);
+  cause = by fault (subst (λ (r : Tx). HasCause r.machine fault new) same cause);
   stable = is;
   bounds = record {
-    most_cuts = bounds.most_cuts ∙ ap (λ (r : Run). r.machine.most_cuts) same;
-    most_faults = bounds.most_faults ∙ ap (λ (r : Run). r.machine.most_faults) same;
-    room_keys = bounds.room_keys ∙ ap (λ (r : Run). r.machine.room_keys) same;
-    room_pages = bounds.room_pages ∙ ap (λ (r : Run). r.machine.room_pages) same;
+    most_cuts = bounds.most_cuts ∙ ap (λ (r : Tx). r.machine.most_cuts) same;
+    most_faults = bounds.most_faults ∙ ap (λ (r : Tx). r.machine.most_faults) same;
+    room_keys = bounds.room_keys ∙ ap (λ (r : Tx). r.machine.room_keys) same;
+    room_pages = bounds.room_pages ∙ ap (λ (r : Tx). r.machine.room_pages) same;
   };
 }
   where
@@ -50,20 +50,20 @@ small_inode size key = let h = length_be64 size in let f : nat_lt 128 (length (i
 few_touched : (p j : ℕ) → p + j ≤ greatest_length → touched p j ≤ 257
 few_touched p j le = omega arith
 
-module _ (old : Run) (n size p : ℕ) (given : List ℕ) (fault : DeviceFault) (new : Machine) (ready : IsReady old) (light : changed_keys old < 256) (fits : p + length given ≤ greatest_length) where
-  abbrev pub last : Run → Run
+module _ (old : Tx) (n size p : ℕ) (given : List ℕ) (fault : DeviceFault) (new : Machine) (ready : IsReady old) (light : changed_keys old < 256) (fits : p + length given ≤ greatest_length) where
+  abbrev pub last : Tx → Tx
   last put = with_length put n (grown size p (length given))
 
   -- nothing of the write stands, or all of it, where a boundary fell
-  pub write_falls : ((put : Run) → PutsBytes old n p given put → has_room old.machine (seen (with_super (last put) put.next)) ≡ true) → WriteFault old n size p given fault new
+  pub write_falls : ((put : Tx) → PutsBytes old n p given put → has_room old.machine (seen (with_super (last put) put.next)) ≡ true) → WriteFault old n size p given fault new
       → Fallen old.machine fault old.machine.stable new
-      ⊎ ((put : Run) × PutsBytes old n p given put × (is_full (old.since + 1) (old.weight + (2 + spanned p (length given))) ≡ true) × Fallen old.machine fault (seen (with_super (last put) put.next)) new)
+      ⊎ ((put : Tx) × PutsBytes old n p given put × (is_full (old.since + 1) (old.weight + (2 + spanned p (length given))) ≡ true) × Fallen old.machine fault (seen (with_super (last put) put.next)) new)
   write_falls room (inl h) = inl (h.fallen ready (let t = few_touched p (length given) fits in omega arith))
   write_falls room (inr (put, puts, inl h)) =
       let keys = puts.keys ready in
       let t = few_touched p (length given) fits in
       let f = put_falls put (inode_key n) (inode_value 2 (grown size p (length given))) fault new (put_ready old put n p given puts ready) (omega arith) (small_inode (grown size p (length given)) (inode_key n)) h in
-      inl (fallen_from old put fault old.machine.stable new puts.writes.same f.cause (f.stable ∙ ap (λ (r : Run). r.machine.stable) puts.writes.same) f.bounds)
+      inl (fallen_from old put fault old.machine.stable new puts.writes.same f.cause (f.stable ∙ ap (λ (r : Tx). r.machine.stable) puts.writes.same) f.bounds)
   write_falls room (inr (put, puts, inr h)) =
       let keys = length_keys old put n p given puts ready (grown size p (length given)) in
       let t = few_touched p (length given) fits in
@@ -79,5 +79,5 @@ module _ (old : Run) (n size p : ℕ) (given : List ℕ) (fault : DeviceFault) (
         )
       ]
     where
-      by_room : (put : Run) → PutsBytes old n p given put → has_room old.machine (seen (with_super (last put) put.next)) ≡ true → has_room (last put).machine (seen (with_super (last put) put.next)) ≡ true
-      by_room put puts h = subst (λ (r : Run). has_room r.machine (seen (with_super (last put) put.next)) ≡ true) (sym puts.writes.same) h
+      by_room : (put : Tx) → PutsBytes old n p given put → has_room old.machine (seen (with_super (last put) put.next)) ≡ true → has_room (last put).machine (seen (with_super (last put) put.next)) ≡ true
+      by_room put puts h = subst (λ (r : Tx). has_room r.machine (seen (with_super (last put) put.next)) ≡ true) (sym puts.writes.same) h

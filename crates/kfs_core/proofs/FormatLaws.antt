@@ -12,7 +12,7 @@ use Rattle.kfs_objects.specs.Records.{super_value, inode_value}
 use Rattle.kfs_model.specs.Tree.{root_alone}
 use Rattle.kfs_shows.proofs.Fresh.{root_is_tree, first_shows}
 use Rattle.kfs_shows.proofs.Counting.{few_objects, few_pages}
-use Rattle.kfs_tx.specs.Run.{Run, IsReady, HasCause, CausedAlone, Fallen, started, seen, changed_keys, put_in}
+use Rattle.kfs_tx.specs.Tx.{Tx, IsReady, HasCause, CausedAlone, Fallen, started, seen, changed_keys, put_in}
 use Rattle.kfs_tx.proofs.Seeing.{ready_put, seen_put, keys_put}
 use Rattle.kfs_tx.proofs.Opening.{ready, sees_stable, first_number, none_changed}
 use Rattle.kfs_tx.proofs.Falling.{set_falls, end_falls}
@@ -27,7 +27,7 @@ pub formats : (m0 m1 m2 m3 m4 : Machine) (tx : ℕ) → m0.pending ≡ none_open
 formats m0 m1 m2 m3 m4 tx idle empty begin one two end =
     let up = up_of m0 m0.up refl begin.allowed in
     let zero' = first_number m0 up idle tx begin.lowest in
-    let r0 : Run = record { machine = begun m0 0; tx = 0; changes = 0; next = 0; since = 0; weight = 0 } in
+    let r0 : Tx = record { machine = begun m0 0; id = 0; changes = 0; next = 0; since = 0; weight = 0 } in
     let r1 = put_in r0 (inode_key 1) (inode_value 1 0) in
     let r2 = put_in r1 super_key (super_value 0 2) in
     let h0 = ready m0 up idle 0 0 in
@@ -37,7 +37,7 @@ formats m0 m1 m2 m3 m4 tx idle empty begin one two end =
     seen_put r1 super_key (super_value 0 2) h1 ∙ ap (λ m. objects.insert m super_key (super_value 0 2)) (seen_put r0 (inode_key 1) (inode_value 1 0) h0 ∙ ap (λ m. objects.insert m (inode_key 1) (inode_value 1 0)) (sees_stable m0 up idle ∙ empty)) in
     (end.after ∙ (λ i. ended (m3_is i) (zero' i)) ∙ (λ i. record (ended r2.machine 0) { stable = sees i }) ∙ closed m0 idle, up)
   where
-    closed : (m0 : Machine) → m0.pending ≡ none_open → ◌≡◌ {A = Machine} (record (ended (put_in (put_in (record { machine = begun m0 0; tx = 0; changes = 0; next = 0; since = 0; weight = 0 }) (inode_key 1) (inode_value 1 0)) super_key (super_value 0 2)).machine 0) { stable = first_objects }) (formatted m0)
+    closed : (m0 : Machine) → m0.pending ≡ none_open → ◌≡◌ {A = Machine} (record (ended (put_in (put_in (record { machine = begun m0 0; id = 0; changes = 0; next = 0; since = 0; weight = 0 }) (inode_key 1) (inode_value 1 0)) super_key (super_value 0 2)).machine 0) { stable = first_objects }) (formatted m0)
     closed m0 idle =
         let first = objects.insert (unwrap_or (changes_of (begun m0 0) 0) objects.empty) (inode_key 1) (Some (inode_value 1 0)) in
         let both = objects.insert (unwrap_or (changes_of (with_change (begun m0 0) 0 (inode_key 1) (Some (inode_value 1 0))) 0) objects.empty) super_key (Some (super_value 0 2)) in
@@ -85,13 +85,13 @@ module _ (m0 : Machine) (idle : m0.pending ≡ none_open) (empty : m0.stable ≡
   zero' : tx ≡ 0
   zero' = first_number m0 up' idle tx begin.lowest
 
-  abbrev r0 : Run
+  abbrev r0 : Tx
   r0 = started m0 0 0
 
-  abbrev r1 : Run
+  abbrev r1 : Tx
   r1 = put_in r0 (inode_key 1) (inode_value 1 0)
 
-  abbrev r2 : Run
+  abbrev r2 : Tx
   r2 = put_in r1 super_key (super_value 0 2)
 
   ready1 : IsReady r1

@@ -8,31 +8,31 @@ use Rattle.kv_device.specs.declared.fault.DeviceFault.TheVariants.{NoTx, Busy, T
 use Rattle.kv_device.specs.Objects.{Objects, seen_through}
 use Rattle.kv_device.specs.Machine.{Machine, Transactions, changes_of, view, none_open}
 use Rattle.kv_device.specs.Calls.{FallsEnding, IsFault, first_of}
-use Rattle.kfs_tx.specs.Run.{Run, IsReady, SameBounds, CommitFault, seen, changed_keys, committed, is_alone, started}
+use Rattle.kfs_tx.specs.Tx.{Tx, IsReady, SameBounds, CommitFault, seen, changed_keys, committed, is_alone, started}
 use Rattle.kfs_tx.proofs.Seeing.{ready_open, seen_nothing}
 use Rattle.kfs_tx.proofs.Alone.{alone_is}
 use Rattle.kfs_core.specs.Clearing.{IsFresh, with_stable}
 use Rattle.kfs_core.proofs.Dropped.{Follows}
 
-none_changed_of : (r : Run) → IsFresh r → changes_of r.machine r.tx ≡ Some objects.empty
-none_changed_of r fresh = λ i. option_and_then (λ t. t) (slice_get (fresh.pending i) (fresh.tx i))
+none_changed_of : (r : Tx) → IsFresh r → changes_of r.machine r.id ≡ Some objects.empty
+none_changed_of r fresh = λ i. option_and_then (λ t. t) (slice_get (fresh.pending i) (fresh.id i))
 
-pub fresh_ready : (r : Run) → IsFresh r → IsReady r
-fresh_ready r fresh = record { up = fresh.up; alone = λ i. is_alone (fresh.pending i) (fresh.tx i) }
+pub fresh_ready : (r : Tx) → IsFresh r → IsReady r
+fresh_ready r fresh = record { up = fresh.up; alone = λ i. is_alone (fresh.pending i) (fresh.id i) }
 
-pub fresh_seen : (r : Run) → IsFresh r → seen r ≡ r.machine.stable
+pub fresh_seen : (r : Tx) → IsFresh r → seen r ≡ r.machine.stable
 unfolding view
 fresh_seen r fresh = ap (λ c. seen_through (unwrap_or c objects.empty) r.machine.stable) (none_changed_of r fresh) ∙ seen_nothing r.machine.stable
 
-pub fresh_keys : (r : Run) → IsFresh r → changed_keys r ≡ 0
+pub fresh_keys : (r : Tx) → IsFresh r → changed_keys r ≡ 0
 fresh_keys r fresh = ap (λ c. objects.len (unwrap_or c objects.empty)) (none_changed_of r fresh) ∙ objects.len-empty bytes_cmp _
 
 -- what is stored makes no difference
-pub fresh_over : (r : Run) (now : Objects) → IsFresh r → IsFresh (with_stable r now)
-fresh_over r now fresh = record { up = fresh.up; pending = fresh.pending; tx = fresh.tx; since = fresh.since; weight = fresh.weight }
+pub fresh_over : (r : Tx) (now : Objects) → IsFresh r → IsFresh (with_stable r now)
+fresh_over r now fresh = record { up = fresh.up; pending = fresh.pending; id = fresh.id; since = fresh.since; weight = fresh.weight }
 
 pub fresh_started : (m : Machine) (changes next : ℕ) → m.up ≡ true → m.pending ≡ none_open → IsFresh (started m changes next)
-fresh_started m changes next up idle = record { up = up; pending = ap (λ p. slice_set p 0 (Some objects.empty)) idle; tx = refl; since = refl; weight = refl }
+fresh_started m changes next up idle = record { up = up; pending = ap (λ p. slice_set p 0 (Some objects.empty)) idle; id = refl; since = refl; weight = refl }
 
 three : (ts : Transactions) → list_all is_none ts ≡ true → length ts ≡ 3 → ts ≡ None ∷ None ∷ None ∷ []
 three [] a l = absurd (omega arith)
@@ -45,20 +45,20 @@ three (None ∷ None ∷ None ∷ []) a l = refl
 three (None ∷ None ∷ None ∷ t ∷ ts) a l = absurd (omega arith)
 
 -- after a commit nothing but what is stored is another
-pub committed_fresh : (old r : Run) (most : ℕ) → IsFresh old → Follows old r most → committed r ≡ with_stable old (seen r)
+pub committed_fresh : (old r : Tx) (most : ℕ) → IsFresh old → Follows old r most → committed r ≡ with_stable old (seen r)
 committed_fresh old r most fresh follows =
     let ready = follows.ready (fresh_ready old fresh) in
-    let a = alone_is r.machine.pending r.tx ready.alone in
+    let a = alone_is r.machine.pending r.id ready.alone in
     let four : length old.machine.pending ≡ 4 = ap (λ (p : Transactions). length p) fresh.pending in
     let long : length r.machine.pending ≡ suc (length a.rest) = ap (λ (p : Transactions). length p) a.is in
     let slots = follows.slots in
     let rest = three a.rest a.none (omega arith) in
-    let pending : slice_set (slice_set r.machine.pending r.tx None) 0 (Some objects.empty) ≡ old.machine.pending =
+    let pending : slice_set (slice_set r.machine.pending r.id None) 0 (Some objects.empty) ≡ old.machine.pending =
     (λ i. slice_set (slice_set (a.is i) (a.first i) None) 0 (Some objects.empty)) ∙ (λ i. Some objects.empty ∷ rest i) ∙ sym fresh.pending in
     let same = follows.same in
     λ i. record {
       machine = record (same i).machine { stable = seen r; pending = pending i };
-      tx = sym fresh.tx i;
+      id = sym fresh.id i;
       changes = (same i).changes;
       next = (same i).next;
       since = sym fresh.since i;
@@ -102,7 +102,7 @@ ends_at m after Memory new h = elim h [
   | inr a ↦ past m _ new after a.1 refl (bounds_to m _ new a.1 refl refl refl refl)
 ]
 
-pub commit_either : (r : Run) (fault : DeviceFault) (new : Machine) → IsReady r → CommitFault r fault new → Either r.machine (seen r) new
+pub commit_either : (r : Tx) (fault : DeviceFault) (new : Machine) → IsReady r → CommitFault r fault new → Either r.machine (seen r) new
 commit_either r fault new ready h =
-    let allowed : first_of r.machine r.tx None ≡ None = λ i. cond (not (ready.up i)) (Some Off) (cond (not (ready_open r ready i)) (Some NoTx) None) in
+    let allowed : first_of r.machine r.id None ≡ None = λ i. cond (not (ready.up i)) (Some Off) (cond (not (ready_open r ready i)) (Some NoTx) None) in
     ends_at r.machine (seen r) fault new (subst (λ o. IsFault o (FallsEnding (seen r)) r.machine fault new) allowed h.0)

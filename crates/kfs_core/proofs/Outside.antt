@@ -2,7 +2,7 @@
 use Rattle.kv_device.specs.declared.fault.DeviceFault.{DeviceFault}
 use Rattle.kv_device.specs.declared.fault.DeviceFault.TheVariants as faults
 use Rattle.kv_device.specs.Machine.{Machine}
-use Rattle.kfs_tx.specs.Run.{HasCause}
+use Rattle.kfs_tx.specs.Tx.{HasCause}
 use Rattle.kfs_core.specs.Starting.{IsOutside}
 
 pub outside_of : (old new : Machine) (fault : DeviceFault) → HasCause old fault new → IsOutside fault

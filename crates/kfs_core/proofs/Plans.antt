@@ -16,7 +16,7 @@ use Rattle.kfs_model.specs.Change.{weight, resizing, node_resizing}
 use Rattle.kfs_shows.specs.Sweeping.{ShowsWorld, OpenBut, Frees, with_tree}
 use Rattle.kfs_laws.proofs.Lookups.{number_put}
 use Rattle.kfs_file.proofs.Resizing.{length_resized}
-use Rattle.kfs_tx.specs.Run.{Run, IsReady, seen, changed_keys, deleted_in}
+use Rattle.kfs_tx.specs.Tx.{Tx, IsReady, seen, changed_keys, deleted_in}
 use Rattle.kfs_file.specs.Contents.{pending_of}
 use Rattle.kfs_core.specs.declared.room.Space.{Space}
 use Rattle.kfs_objects.specs.Keys.{orphan_key}
@@ -40,7 +40,7 @@ use Rattle.kfs_core.proofs.CuttingJudges.{CutsTree, truncate_in, truncate_same, 
 use Rattle.kfs_core.proofs.Weights.{unlink_weight, close_weight, no_chunks, moves_left, rename_weight, rename_stays, resizing_is}
 
 -- a change that is put but not counted yet, with the open files after the call: n is its weight, c and p what is taken of the keys and pages then
-pub record Plan (r mid : Run) (k : Limits) (w : World) (desk_after : Desk) (call : Call) (n c p : ℕ) : Type 0 where
+pub record Plan (r mid : Tx) (k : Limits) (w : World) (desk_after : Desk) (call : Call) (n c p : ℕ) : Type 0 where
   pub world : World
   pub steps : (d : ℕ) → step k d w call ≡ record { world = world; reply = replies.Done }
   pub weighs : weight w call (record { world = world; reply = replies.Done }) ≡ Some n
@@ -56,21 +56,21 @@ pub record Plan (r mid : Run) (k : Limits) (w : World) (desk_after : Desk) (call
   pub room : has_room k world.tree ≡ true
 
 -- where only the pending changes differ, no number does
-pub numbers_of : (old new : Run) → new ≡ pending_of new old → SameNumbers old new
+pub numbers_of : (old new : Tx) → new ≡ pending_of new old → SameNumbers old new
 numbers_of old new e = record {
-  changes = ap (λ (r : Run). r.changes) e;
-  next = ap (λ (r : Run). r.next) e;
-  since = ap (λ (r : Run). r.since) e;
-  weight = ap (λ (r : Run). r.weight) e;
-  up = ap (λ (r : Run). r.machine.up) e;
-  stable = ap (λ (r : Run). r.machine.stable) e;
-  cuts = ap (λ (r : Run). r.machine.cuts) e;
-  faults = ap (λ (r : Run). r.machine.faults) e;
+  changes = ap (λ (r : Tx). r.changes) e;
+  next = ap (λ (r : Tx). r.next) e;
+  since = ap (λ (r : Tx). r.since) e;
+  weight = ap (λ (r : Tx). r.weight) e;
+  up = ap (λ (r : Tx). r.machine.up) e;
+  stable = ap (λ (r : Tx). r.machine.stable) e;
+  cuts = ap (λ (r : Tx). r.machine.cuts) e;
+  faults = ap (λ (r : Tx). r.machine.faults) e;
   bounds = record {
-    most_cuts = ap (λ (r : Run). r.machine.most_cuts) e;
-    most_faults = ap (λ (r : Run). r.machine.most_faults) e;
-    room_keys = ap (λ (r : Run). r.machine.room_keys) e;
-    room_pages = ap (λ (r : Run). r.machine.room_pages) e;
+    most_cuts = ap (λ (r : Tx). r.machine.most_cuts) e;
+    most_faults = ap (λ (r : Tx). r.machine.most_faults) e;
+    room_keys = ap (λ (r : Tx). r.machine.room_keys) e;
+    room_pages = ap (λ (r : Tx). r.machine.room_pages) e;
   };
 }
 
@@ -90,7 +90,7 @@ room_left k t u keys pages frees room =
     let g : nat_le (chunks u) k.pages ≡ true = grind (arith, nat_tests) in
     λ i. f i && g i
 
-module _ (r : Run) (ready : IsReady r) (k : Limits) (w : World) (sh : ShowsWorld (seen r) w) (low : w.tree.next ≤ 2 ^ 63) (room : has_room k w.tree ≡ true)
+module _ (r : Tx) (ready : IsReady r) (k : Limits) (w : World) (sh : ShowsWorld (seen r) w) (low : w.tree.next ≤ 2 ^ 63) (room : has_room k w.tree ≡ true)
     (charged chunked : ℕ) (charge_was : charged ≡ charge w.tree) (chunks_was : chunked ≡ chunks w.tree) where
   stands : Stands (seen r) w.tree
   stands = record { tree = sh.tree; shows = sh.shows; low = low }
@@ -112,7 +112,7 @@ module _ (r : Run) (ready : IsReady r) (k : Limits) (w : World) (sh : ShowsWorld
       by (Some leaf) over = leaf_light q leaf over.0 (open_now leaf.node)
 
   -- a plan from what the objects show
-  plan_of : (mid : Run) (call : Call) (u : World) (changed n keys pages : ℕ) → LeavesWorld r mid w.tree u changed keys pages → changed + 1 ≤ n → n ≤ 260 → u.desk ≡ w.desk → u.tree.next ≡ w.tree.next
+  plan_of : (mid : Tx) (call : Call) (u : World) (changed n keys pages : ℕ) → LeavesWorld r mid w.tree u changed keys pages → changed + 1 ≤ n → n ≤ 260 → u.desk ≡ w.desk → u.tree.next ≡ w.tree.next
       → ((d : ℕ) → step k d w call ≡ record { world = u; reply = replies.Done }) → weight w call (record { world = u; reply = replies.Done }) ≡ Some n → Plan r mid k w w.desk call n (charged - keys) (chunked - pages)
   plan_of mid call u changed n keys pages leaves within light desk next steps weighs =
       let few = leaves.rests.few ready in
@@ -140,7 +140,7 @@ module _ (r : Run) (ready : IsReady r) (k : Limits) (w : World) (sh : ShowsWorld
 
     -- ---- unlink
 
-    pub unlink_plan : (path : List ℕ) (route : Route) → syntax path ≡ Ok route → (leaf : Leaf) → unlink_in (seen r) route ≡ Ok leaf → (mid : Run) → Unnames r leaf (open_now leaf.node) mid
+    pub unlink_plan : (path : List ℕ) (route : Route) → syntax path ≡ Ok route → (leaf : Leaf) → unlink_in (seen r) route ≡ Ok leaf → (mid : Tx) → Unnames r leaf (open_now leaf.node) mid
         → Plan r mid k w w.desk (calls.Unlink path) (4 + chunks_gone leaf (open_now leaf.node)) (charged - keys_gone leaf (open_now leaf.node)) (chunked - chunks_gone leaf (open_now leaf.node))
     unlink_plan path route read leaf is mid does =
         let it = of_ok (UnlinksLeaf (seen r) w.tree stands w.desk) (unlink w path) (unlink_in (seen r) route) leaf (unlink_same (seen r) w.tree stands w.desk path route read) is in
@@ -153,7 +153,7 @@ module _ (r : Run) (ready : IsReady r) (k : Limits) (w : World) (sh : ShowsWorld
 
     -- ---- rmdir
 
-    pub rmdir_plan : (path : List ℕ) (route : Route) → syntax path ≡ Ok route → (leaf : Leaf) → rmdir_in (seen r) route ≡ Ok leaf → (mid : Run) → Unnames r leaf (open_now leaf.node) mid
+    pub rmdir_plan : (path : List ℕ) (route : Route) → syntax path ≡ Ok route → (leaf : Leaf) → rmdir_in (seen r) route ≡ Ok leaf → (mid : Tx) → Unnames r leaf (open_now leaf.node) mid
         → Plan r mid k w w.desk (calls.Rmdir path) (4 + chunks_gone leaf (open_now leaf.node)) (charged - keys_gone leaf (open_now leaf.node)) (chunked - chunks_gone leaf (open_now leaf.node))
     rmdir_plan path route read leaf is mid does =
         let it = of_ok (RemovesLeaf (seen r) w.tree stands) (rmdir_at w.tree path) (rmdir_in (seen r) route) leaf (rmdir_same (seen r) w.tree stands path route read) is in
@@ -169,7 +169,7 @@ module _ (r : Run) (ready : IsReady r) (k : Limits) (w : World) (sh : ShowsWorld
     replaced_open : (p q : Place) (move : Move) → IsMove w.tree p q move → (leaf : Leaf) → move.replaced ≡ Some leaf → open_now leaf.node ≡ is_open w.desk leaf.node
     replaced_open p q move is leaf e = let over = subst (IsOver w.tree q move.new_parent move.new_name) e is.over in leaf_open q leaf over.0
 
-    pub rename_plan : (old new : List ℕ) (from to : Route) → syntax old ≡ Ok from → syntax new ≡ Ok to → (move : Move) → rename_in (seen r) from to ≡ Ok (Some move) → (mid : Run) → Replaces r move.replaced open_now mid
+    pub rename_plan : (old new : List ℕ) (from to : Route) → syntax old ≡ Ok from → syntax new ≡ Ok to → (move : Move) → rename_in (seen r) from to ≡ Ok (Some move) → (mid : Tx) → Replaces r move.replaced open_now mid
         → Plan r (with_moved mid move) k w w.desk (calls.Rename old new) (4 + chunks_replaced move.replaced open_now) (charged - keys_replaced move.replaced open_now) (chunked - chunks_replaced move.replaced open_now)
     rename_plan old new from to read_old read_new move is mid does =
         let it = of_ok (MovesPath (seen r) w.tree stands w.desk old) (rename w old new) (rename_in (seen r) from to) (Some move) (rename_same (seen r) w.tree stands w.desk old new from to read_old read_new) is in
@@ -193,7 +193,7 @@ module _ (r : Run) (ready : IsReady r) (k : Limits) (w : World) (sh : ShowsWorld
   -- a node without a name goes with the last description that has it
   pub release_plan : (fd : ℕ) (desk : Desk) → ((d : ℕ) → step k d w (calls.Close fd) ≡ record { world = swept (record { tree = w.tree; desk = desk }); reply = replies.Done })
       → (n : ℕ) (node : Node) → node_of w.tree n ≡ Some node → IsNameless w.tree n → OpenBut (record { tree = w.tree; desk = desk }) n → is_open desk n ≡ false
-      → (size : ℕ) → release_at (inode_in (seen r) n) ≡ Ok size → (mid : Run) → Goes r n size mid
+      → (size : ℕ) → release_at (inode_in (seen r) n) ≡ Ok size → (mid : Tx) → Goes r n size mid
       → Plan r (deleted_in mid (orphan_key n)) k w desk (calls.Close fd) (4 + chunks_for size) (charged - (2 + chunks_for size)) (chunked - chunks_for size)
   release_plan fd desk steps n node there none but shut size judged mid goes =
       let left : World = record { tree = w.tree; desk = desk } in
@@ -254,7 +254,7 @@ module _ (r : Run) (ready : IsReady r) (k : Limits) (w : World) (sh : ShowsWorld
       → (u : Tree) → u ≡ with_node w.tree n (File (resized bytes size)) → has_room k u ≡ true
       → ((d : ℕ) → step k d w call ≡ record { world = with_tree w u; reply = replies.Done })
       → weight w call (record { world = with_tree w u; reply = replies.Done }) ≡ node_resizing w (record { world = with_tree w u; reply = replies.Done }) (Some n)
-      → old ≢ size → (put : Run) → PutsLength r n old size put
+      → old ≢ size → (put : Tx) → PutsLength r n old size put
       → Plan r (with_length put n size) k w w.desk call (resize_weight old size) (charged + chunks_for size - chunks_for old) (chunked + chunks_for size - chunks_for old)
   resize_plan call n bytes file size short old was u is fits steps weighs differ put puts =
       let puts_bytes : PutsLength r n (length bytes) size put = subst (λ s. PutsLength r n s size put) was puts in
@@ -306,7 +306,7 @@ module _ (r : Run) (ready : IsReady r) (k : Limits) (w : World) (sh : ShowsWorld
     truncate_weighs = ap (node_resizing w (record { world = with_tree w found.0; reply = replies.Done })) found.2.2
 
     -- another length is a change
-    pub truncate_plan : old ≢ size → (put : Run) → PutsLength r n old size put
+    pub truncate_plan : old ≢ size → (put : Tx) → PutsLength r n old size put
         → Plan r (with_length put n size) k w w.desk (calls.Truncate path (pos size)) (resize_weight old size) (charged + chunks_for size - chunks_for old) (chunked + chunks_for size - chunks_for old)
     truncate_plan differ put puts =
         let cut = found.2 in

@@ -21,7 +21,7 @@ use Rattle.kfs_shows.proofs.Renaming.{moves_entry}
 use Rattle.kfs_shows.proofs.Replacing.{keys_apart}
 use Rattle.kfs_shows.proofs.Dropping as dropping
 use Rattle.kfs_shows.proofs.Leaving.{leaves_less, unlinked_kept, unlinked_dropped, moved, moved_kept, moved_dropped}
-use Rattle.kfs_tx.specs.Run.{Run, IsReady, seen, put_in, deleted_in}
+use Rattle.kfs_tx.specs.Tx.{Tx, IsReady, seen, put_in, deleted_in}
 use Rattle.kfs_tx.proofs.Seeing.{ready_put, seen_put, keys_put, ready_deleted, seen_deleted}
 use Rattle.kfs_file.specs.Contents.{pending_of, ChangesAtMost}
 use Rattle.kfs_core.specs.Stands.{Stands}
@@ -32,25 +32,25 @@ use Rattle.kfs_core.proofs.Dropped.{Follows, follows_deleted, goes_follows, inod
 use Rattle.kfs_core.proofs.RemovingJudges.{IsLeaf}
 use Rattle.kfs_core.proofs.RenamingJudges.{IsMove, IsOver}
 
--- what a run keeps where only its transaction's changes are others, at most so many keys more
-pub record Rests (old new : Run) (most : ℕ) : Type 0 where
+-- what a tx keeps where only its transaction's changes are others, at most so many keys more
+pub record Rests (old new : Tx) (most : ℕ) : Type 0 where
   pub ready : IsReady old → IsReady new
   pub few : ChangesAtMost old most new
   pub same : new ≡ pending_of new old
 
--- a run whose objects show a world, after at most so many keys more were changed, and that takes so many keys and pages less
-pub record LeavesWorld (old mid : Run) (t : Tree) (w : World) (changed keys pages : ℕ) : Type 0 where
+-- a tx whose objects show a world, after at most so many keys more were changed, and that takes so many keys and pages less
+pub record LeavesWorld (old mid : Tx) (t : Tree) (w : World) (changed keys pages : ℕ) : Type 0 where
   pub rests : Rests old mid changed
   pub shows : ShowsWorld (seen mid) w
   pub frees : Frees t w.tree keys pages
 
-rests_of : (a b : Run) (m : ℕ) → Follows a b m → Rests a b m
+rests_of : (a b : Tx) (m : ℕ) → Follows a b m → Rests a b m
 rests_of a b m h = record { ready = h.ready; few = h.few; same = h.same }
 
-follows_none : (r : Run) → Follows r r 0
+follows_none : (r : Tx) → Follows r r 0
 follows_none r = record { ready = λ h. h; few = λ h. omega arith; same = refl; slots = refl }
 
-follows_then : (a b c : Run) (m n : ℕ) → Follows a b m → Follows b c n → Follows a c (m + n)
+follows_then : (a b c : Tx) (m n : ℕ) → Follows a b m → Follows b c n → Follows a c (m + n)
 follows_then a b c m n h g = record {
   ready = λ r. g.ready (h.ready r);
   few = λ r. let x = h.few r in let y = g.few (h.ready r) in omega arith;
@@ -58,18 +58,18 @@ follows_then a b c m n h g = record {
   slots = g.slots ∙ h.slots;
 }
 
-follows_put : (old mid : Run) (key value : List ℕ) (most : ℕ) → Follows old mid most → Follows old (put_in mid key value) (most + 1)
+follows_put : (old mid : Tx) (key value : List ℕ) (most : ℕ) → Follows old mid most → Follows old (put_in mid key value) (most + 1)
 follows_put old mid key value most h = record {
   ready = λ r. ready_put mid key value (h.ready r);
   few = λ r. let a = h.few r in let b = keys_put mid key value (h.ready r) in omega arith;
-  same = ap (λ (r : Run). record r { machine = record r.machine { pending = (put_in mid key value).machine.pending } }) h.same;
-  slots = length-set mid.machine.pending mid.tx (Some (objects.insert (unwrap_or (changes_of mid.machine mid.tx) objects.empty) key (Some value))) ∙ h.slots;
+  same = ap (λ (r : Tx). record r { machine = record r.machine { pending = (put_in mid key value).machine.pending } }) h.same;
+  slots = length-set mid.machine.pending mid.id (Some (objects.insert (unwrap_or (changes_of mid.machine mid.id) objects.empty) key (Some value))) ∙ h.slots;
 }
 
-follows_as : (a b : Run) (m n : ℕ) → m ≡ n → Follows a b m → Follows a b n
+follows_as : (a b : Tx) (m n : ℕ) → m ≡ n → Follows a b m → Follows a b n
 follows_as a b m n e h = subst (Follows a b) e h
 
-follows_within : (a b : Run) (m n : ℕ) → m ≤ n → Follows a b m → Follows a b n
+follows_within : (a b : Tx) (m n : ℕ) → m ≤ n → Follows a b m → Follows a b n
 follows_within a b m n le h = record { ready = h.ready; few = λ r. let x = h.few r in omega arith; same = h.same; slots = h.slots }
 
 -- the chunks of a node, by its length
@@ -78,7 +78,7 @@ chunks_are Dir = refl
 chunks_are (File bytes) = refl
 
 -- a tree that the objects show
-module _ (r : Run) (ready : IsReady r) (t : Tree) (tree : IsTree t) (shows : ShowsTree (seen r) t) (low : t.next ≤ 2 ^ 63) where
+module _ (r : Tx) (ready : IsReady r) (t : Tree) (tree : IsTree t) (shows : ShowsTree (seen r) t) (low : t.next ≤ 2 ^ 63) where
   stands : Stands (seen r) t
   stands = record { tree = tree; shows = shows; low = low }
 
@@ -96,9 +96,9 @@ frees_size : (t u : Tree) (node : Node) (size : ℕ) → size ≡ (kind_of node)
 frees_size t u node size is f = subst (λ k. Frees t u (2 + k) k) (chunks_are node ∙ ap chunks_for (sym is)) f
 
 -- a nameless node that is open no more goes with its orphan object
-pub releases_leaves : (r : Run) → IsReady r → (w : World) → IsTree w.tree → ShowsTree (seen r) w.tree → w.tree.next ≤ 2 ^ 63
+pub releases_leaves : (r : Tx) → IsReady r → (w : World) → IsTree w.tree → ShowsTree (seen r) w.tree → w.tree.next ≤ 2 ^ 63
     → (n : ℕ) (node : Node) → node_of w.tree n ≡ Some node → IsNameless w.tree n → OpenBut w n → is_open w.desk n ≡ false
-    → (size : ℕ) → size ≡ (kind_of node).1 → (mid : Run) → Goes r n size mid
+    → (size : ℕ) → size ≡ (kind_of node).1 → (mid : Tx) → Goes r n size mid
     → LeavesWorld r (deleted_in mid (orphan_key n)) w.tree (swept w) (2 + chunks_for size) (2 + chunks_for size) (chunks_for size)
 releases_leaves r ready w tree shows low n node there none but shut size is mid goes =
     let low_n = node_low r ready w.tree tree shows low n node there in
@@ -115,12 +115,12 @@ releases_leaves r ready w tree shows low n node there none but shut size is mid 
     }
 
 -- a world that the objects show
-module _ (r : Run) (ready : IsReady r) (w : World) (sh : ShowsWorld (seen r) w) (low : w.tree.next ≤ 2 ^ 63) where
+module _ (r : Tx) (ready : IsReady r) (w : World) (sh : ShowsWorld (seen r) w) (low : w.tree.next ≤ 2 ^ 63) where
   reach : w.tree.next ≤ 2 ^ 64
   reach = omega arith
 
   -- an entry deleted, and its node's objects changed
-  module _ (p : ℕ) (name : Name) (n : ℕ) (mid : Run) where
+  module _ (p : ℕ) (name : Name) (n : ℕ) (mid : Tx) where
     less_ready : IsReady (deleted_in r (entry_key p name))
     less_ready = ready_deleted r (entry_key p name) ready
 
@@ -156,14 +156,14 @@ module _ (r : Run) (ready : IsReady r) (w : World) (sh : ShowsWorld (seen r) w) 
           others = λ q d e f. others_kept (deleted_in r (entry_key p name)) mid n size goes less_ready low_n small q e f ∙ less_same q d;
         }
 
-  -- a run follows the first by the keys of an entry, of an orphan object or an inode, and of the chunks that go
-  follows_unnamed : (leaf : Leaf) (open_now : Bool) (mid : Run) → Unnames r leaf open_now mid → Follows r mid (2 + chunks_gone leaf open_now)
-  follows_unnamed leaf true mid is = subst (λ (x : Run). Follows r x 2) (sym is) (follows_put r (deleted_in r (entry_key leaf.parent leaf.name)) (orphan_key leaf.node) orphan_value 1 (follows_deleted r r (entry_key leaf.parent leaf.name) 0 (follows_none r)))
+  -- a tx follows the first by the keys of an entry, of an orphan object or an inode, and of the chunks that go
+  follows_unnamed : (leaf : Leaf) (open_now : Bool) (mid : Tx) → Unnames r leaf open_now mid → Follows r mid (2 + chunks_gone leaf open_now)
+  follows_unnamed leaf true mid is = subst (λ (x : Tx). Follows r x 2) (sym is) (follows_put r (deleted_in r (entry_key leaf.parent leaf.name)) (orphan_key leaf.node) orphan_value 1 (follows_deleted r r (entry_key leaf.parent leaf.name) 0 (follows_none r)))
   follows_unnamed leaf false mid goes =
       follows_as r mid (1 + (chunks_for leaf.size + 1)) (2 + chunks_for leaf.size) (omega arith)
       (follows_then r (deleted_in r (entry_key leaf.parent leaf.name)) mid 1 (chunks_for leaf.size + 1) (follows_deleted r r (entry_key leaf.parent leaf.name) 0 (follows_none r)) (goes_follows (deleted_in r (entry_key leaf.parent leaf.name)) mid leaf.node leaf.size goes))
 
-  pub unnames_leaves : (place : Place) (leaf : Leaf) → IsLeaf w.tree place leaf → (open_now : Bool) → open_now ≡ is_open w.desk leaf.node → (mid : Run) → Unnames r leaf open_now mid
+  pub unnames_leaves : (place : Place) (leaf : Leaf) → IsLeaf w.tree place leaf → (open_now : Bool) → open_now ≡ is_open w.desk leaf.node → (mid : Tx) → Unnames r leaf open_now mid
       → LeavesWorld r mid w.tree (swept (with_tree w (without_place w.tree place))) (2 + chunks_gone leaf open_now) (keys_gone leaf open_now) (chunks_gone leaf open_now)
   unnames_leaves place leaf is open_now same mid does = subst (λ q. LeavesWorld r mid w.tree (swept (with_tree w (without_place w.tree q))) (2 + chunks_gone leaf open_now) (keys_gone leaf open_now) (chunks_gone leaf open_now)) (sym is.is) (by open_now same does)
     where
@@ -182,7 +182,7 @@ module _ (r : Run) (ready : IsReady r) (w : World) (sh : ShowsWorld (seen r) w) 
           record { rests = rests_of _ _ _ (follows_unnamed leaf false mid d); shows = f.0; frees = frees_size w.tree _ is.node leaf.size is.size f.1 }
 
   -- an entry moved, after what it replaces lost its name
-  module _ (move : Move) (mid : Run) where
+  module _ (move : Move) (mid : Tx) where
     abbrev old_key : List ℕ
     old_key = entry_key move.parent move.name
 
@@ -246,10 +246,10 @@ module _ (r : Run) (ready : IsReady r) (w : World) (sh : ShowsWorld (seen r) w) 
     apart : below (is.up ++ move.name ∷ []) (is.to ++ move.new_name ∷ []) ≡ None
     apart = (λ i. below (sym is.is i) (sym is.goal i)) ∙ is.apart
 
-    abbrev MovesTo : Place → Place → Option Leaf → Run → Type 0
+    abbrev MovesTo : Place → Place → Option Leaf → Tx → Type 0
     MovesTo p q o mid = LeavesWorld r (with_moved mid move) w.tree (swept (with_tree w (renamed (without_place w.tree q) p q))) (3 + chunks_replaced o open_now) (keys_replaced o open_now) (chunks_replaced o open_now)
 
-    onto_none : (mid : Run) → mid ≡ r → number_at w.tree (is.to ++ move.new_name ∷ []) ≡ None → MovesTo (is.up ++ move.name ∷ []) (is.to ++ move.new_name ∷ []) None mid
+    onto_none : (mid : Tx) → mid ≡ r → number_at w.tree (is.to ++ move.new_name ∷ []) ≡ None → MovesTo (is.up ++ move.name ∷ []) (is.to ++ move.new_name ∷ []) None mid
     onto_none mid same free =
         let spot : IsGoal w.tree from is.to move.new_name move.new_parent = record { at = is.under; dir = is.dir; free = free; named = is.named; apart = apart } in
         let entry : MovesEntry (seen r) (seen (with_moved r move)) move.parent move.name move.new_parent move.new_name move.node =
@@ -258,7 +258,7 @@ module _ (r : Run) (ready : IsReady r) (w : World) (sh : ShowsWorld (seen r) w) 
         let f = moved (seen r) (seen (with_moved r move)) w sh reach is.up move.name is.to move.new_name move.parent move.new_parent move.node is.above found is.under apart is.dir free is.named entry in
         subst (MovesTo from onto None) (sym same) (record { rests = rests_of _ _ _ (follows_within r (with_moved r move) 2 3 (omega arith) (follows_moved move r 0 (follows_none r))); shows = f.0; frees = f.1 })
 
-    onto_leaf : (mid : Run) (leaf : Leaf) → IsLeaf w.tree q leaf → (b : Bool) → b ≡ open_now leaf.node → open_now leaf.node ≡ is_open w.desk leaf.node → Loses r leaf.node leaf.size b mid → MovesTo (is.up ++ move.name ∷ []) (is.to ++ move.new_name ∷ []) (Some leaf) mid
+    onto_leaf : (mid : Tx) (leaf : Leaf) → IsLeaf w.tree q leaf → (b : Bool) → b ≡ open_now leaf.node → open_now leaf.node ≡ is_open w.desk leaf.node → Loses r leaf.node leaf.size b mid → MovesTo (is.up ++ move.name ∷ []) (is.to ++ move.new_name ∷ []) (Some leaf) mid
     onto_leaf mid leaf over b same opened does = subst (λ b. LeavesWorld r (with_moved mid move) w.tree (swept (with_tree w (renamed (without_place w.tree onto) from onto))) (3 + chunks_gone leaf b) (keys_gone leaf b) (chunks_gone leaf b)) same (by b (same ∙ opened) does)
       where
         over_at : number_at w.tree (is.to ++ move.new_name ∷ []) ≡ Some leaf.node
@@ -272,7 +272,7 @@ module _ (r : Run) (ready : IsReady r) (w : World) (sh : ShowsWorld (seen r) w) 
 
         by : (c : Bool) → c ≡ is_open w.desk leaf.node → Loses r leaf.node leaf.size c mid → LeavesWorld r (with_moved mid move) w.tree (swept (with_tree w (renamed (without_place w.tree (is.to ++ move.new_name ∷ [])) (is.up ++ move.name ∷ []) (is.to ++ move.new_name ∷ [])))) (3 + chunks_gone leaf c) (keys_gone leaf c) (chunks_gone leaf c)
         by true e d =
-            let follows : Follows r mid 1 = subst (λ (x : Run). Follows r x 1) (sym d) (follows_put r r (orphan_key leaf.node) orphan_value 0 (follows_none r)) in
+            let follows : Follows r mid 1 = subst (λ (x : Tx). Follows r x 1) (sym d) (follows_put r r (orphan_key leaf.node) orphan_value 0 (follows_none r)) in
             let f = moved_kept (seen r) (seen (with_moved mid move)) w sh reach is.up move.name is.to move.new_name move.parent move.new_parent move.node is.above found is.under apart leaf.node over.node over_at over.there leafless (sym e) (over_kept move mid (follows.ready ready) keys leaf.node d) in
             record { rests = rests_of _ _ _ (follows_moved move mid 1 follows); shows = f.0; frees = f.1 }
         by false e d =
@@ -284,7 +284,7 @@ module _ (r : Run) (ready : IsReady r) (w : World) (sh : ShowsWorld (seen r) w) 
               frees = frees_size w.tree _ over.node leaf.size over.size f.1;
             }
 
-    pub moves_leaves : ((leaf : Leaf) → move.replaced ≡ Some leaf → open_now leaf.node ≡ is_open w.desk leaf.node) → (mid : Run) → Replaces r move.replaced open_now mid
+    pub moves_leaves : ((leaf : Leaf) → move.replaced ≡ Some leaf → open_now leaf.node ≡ is_open w.desk leaf.node) → (mid : Tx) → Replaces r move.replaced open_now mid
         → LeavesWorld r (with_moved mid move) w.tree (swept (with_tree w (renamed (without_place w.tree q) p q))) (3 + chunks_replaced move.replaced open_now) (keys_replaced move.replaced open_now) (chunks_replaced move.replaced open_now)
     moves_leaves opened mid does = subst (λ s. MovesTo s q move.replaced mid) (sym is.is) (subst (λ s. MovesTo (is.up ++ move.name ∷ []) s move.replaced mid) (sym is.goal) (by move.replaced refl is.over does))
       where

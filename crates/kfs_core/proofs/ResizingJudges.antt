@@ -20,7 +20,7 @@ use Rattle.kfs_shows.specs.Sweeping.{ShowsWorld, with_tree}
 use Rattle.kfs_shows.proofs.Content.{still_tree, still_shows, node_before}
 use Rattle.kfs_shows.proofs.KeysApart.{kinds}
 use Rattle.kfs_shows.proofs.Lookups.{key_put, key_other}
-use Rattle.kfs_tx.specs.Run.{Run, IsReady, seen}
+use Rattle.kfs_tx.specs.Tx.{Tx, IsReady, seen}
 use Rattle.kfs_tx.proofs.Seeing.{ready_put, seen_put, keys_put}
 use Rattle.kfs_file.proofs.Resizing.{length_resized}
 use Rattle.kfs_core.specs.declared.room.Space.{Space}
@@ -82,12 +82,12 @@ resized_stays t tree n bytes file =
     ap (λ b. with_node t n (File b)) (same_length bytes) ∙ (λ i. record { names = t.names; nodes = nodes i; next = t.next })
 
 -- the objects after a file got another length
-module _ (r : Run) (ready : IsReady r) (w : World) (sh : ShowsWorld (seen r) w) (low : w.tree.next ≤ 2 ^ 63) (n : ℕ) (bytes : List ℕ) (file : node_of w.tree n ≡ Some (File bytes))
-    (size : ℕ) (short : size ≤ greatest_length) (put : Run) (puts : PutsLength r n (length bytes) size put) where
+module _ (r : Tx) (ready : IsReady r) (w : World) (sh : ShowsWorld (seen r) w) (low : w.tree.next ≤ 2 ^ 63) (n : ℕ) (bytes : List ℕ) (file : node_of w.tree n ≡ Some (File bytes))
+    (size : ℕ) (short : size ≤ greatest_length) (put : Tx) (puts : PutsLength r n (length bytes) size put) where
   abbrev now : Tree
   now = with_node w.tree n (File (resized bytes size))
 
-  abbrev after : Run
+  abbrev after : Tx
   after = with_length put n size
 
   stands : Stands (seen r) w.tree
@@ -120,7 +120,7 @@ module _ (r : Run) (ready : IsReady r) (w : World) (sh : ShowsWorld (seen r) w) 
   resized_rests = record {
     ready = λ h. ready_put put (inode_key n) (inode_value 2 size) (puts.resizes.ready h);
     few = λ h. let a = puts.keys h in let b = keys_put put (inode_key n) (inode_value 2 size) (puts.resizes.ready h) in omega arith;
-    same = ap (λ (x : Run). record x { machine = record x.machine { pending = (with_length put n size).machine.pending } }) puts.resizes.same;
+    same = ap (λ (x : Tx). record x { machine = record x.machine { pending = (with_length put n size).machine.pending } }) puts.resizes.same;
   }
 
   pub resized_shows : ShowsWorld (seen (with_length put n size)) (with_tree w (with_node w.tree n (File (resized bytes size))))

@@ -14,7 +14,7 @@ use Rattle.kfs_model.specs.Ladder.{◌>>=◌, ◌>>◌, ◌when◌, bind_ok, the
 use Rattle.kfs_model.specs.Tree.{greatest_length, is_dot, is_dot_dot}
 use Rattle.kfs_model.specs.Change.{spanned}
 use Rattle.kfs_model.specs.Step.{Route, is_root, ends_by, ends_in_dots, or_else}
-use Rattle.kfs_tx.specs.Run.{Run, IsReady, is_full, seen, changed_keys, deleted_in, counted, committed}
+use Rattle.kfs_tx.specs.Tx.{Tx, IsReady, is_full, seen, changed_keys, deleted_in, counted, committed}
 use Rattle.kfs_tx.proofs.Seeing.{ready_put, keys_put, ready_committed, keys_committed}
 use Rattle.kfs_file.specs.Contents.{touched}
 use Rattle.kfs_core.specs.declared.room.Space.{Space}
@@ -37,7 +37,7 @@ use Rattle.kfs_core.proofs.Pieces.{ok_is}
 -- ---- one change
 
 -- what is put takes at most k keys more, and weighs more than that
-counts_small : (old mid : Run) (n next k : ℕ) → IsLight old → IsReady mid → mid.weight ≡ old.weight → changed_keys mid ≤ changed_keys old + k → k + 1 ≤ n → n ≤ 260 → IsSmall mid n next
+counts_small : (old mid : Tx) (n next k : ℕ) → IsLight old → IsReady mid → mid.weight ≡ old.weight → changed_keys mid ≤ changed_keys old + k → k + 1 ≤ n → n ≤ 260 → IsSmall mid n next
 counts_small old mid n next k light ready weight few within most = record {
   keys = let a = one_more in let b = light.few in let c = light.light in omega arith;
   after = by (is_full (mid.since + 1) (mid.weight + n)) refl;
@@ -65,10 +65,10 @@ counts_small old mid n next k light ready weight few within most = record {
       few = let a = one_more in let b = light.few in omega arith;
     }
 
-follows_small : (old mid : Run) (n next k : ℕ) → IsLight old → Follows old mid k → k + 1 ≤ n → n ≤ 260 → IsSmall mid n next
-follows_small old mid n next k light follows within most = counts_small old mid n next k light (follows.ready light.ready) (ap (λ (r : Run). r.weight) follows.same) (follows.few light.ready) within most
+follows_small : (old mid : Tx) (n next k : ℕ) → IsLight old → Follows old mid k → k + 1 ≤ n → n ≤ 260 → IsSmall mid n next
+follows_small old mid n next k light follows within most = counts_small old mid n next k light (follows.ready light.ready) (ap (λ (r : Tx). r.weight) follows.same) (follows.few light.ready) within most
 
-pub commit_small : (r : Run) → IsLight r → (changed_keys r ≤ most_keys) × IsLight (committed r)
+pub commit_small : (r : Tx) → IsLight r → (changed_keys r ≤ most_keys) × IsLight (committed r)
 commit_small r light = (
   (let a = light.few in let b = light.light in omega arith),
   record { ready = ready_committed r light.ready; light = omega arith; few = let h = keys_committed r light.ready in omega arith },
@@ -76,7 +76,7 @@ commit_small r light = (
 
 -- ---- a new node
 
-pub making_small : (r : Run) (kind parent : ℕ) (name : List ℕ) → IsLight r → IsSmall (with_entry r kind parent name) 4 (r.next + 1)
+pub making_small : (r : Tx) (kind parent : ℕ) (name : List ℕ) → IsLight r → IsSmall (with_entry r kind parent name) 4 (r.next + 1)
 making_small r kind parent name light =
     let one = follows_put r r (inode_key r.next) (inode_value kind 0) 0 (follows_none r) in
     follows_small r (with_entry r kind parent name) 4 (r.next + 1) 2 light (follows_put r (with_inode r kind) (entry_key parent name) (entry_value r.next) 1 one) (omega arith) (omega arith)
@@ -114,7 +114,7 @@ fits_within space size offset count = omega arith
 few_spanned : (p j : ℕ) → 0 < j → p + j ≤ greatest_length → 2 + spanned p j ≤ 260
 few_spanned p j some le = omega arith
 
-pub writing_small : (r put : Run) (space : Space) (node offset size : ℕ) (given : List ℕ) → IsLight r → write_in (seen r) space node offset (length given) ≡ Ok size
+pub writing_small : (r put : Tx) (space : Space) (node offset size : ℕ) (given : List ℕ) → IsLight r → write_in (seen r) space node offset (length given) ≡ Ok size
     → (some : List ℕ) → some ≡ take (fits_in space size offset (length given)) given → PutsBytes r node offset some put → IsSmall (with_length put node (grown size offset (length some))) (2 + spanned offset (length some)) put.next
 writing_small r put space node offset size given light judged some is puts =
     let n = fits_in space size offset (length given) in
@@ -146,14 +146,14 @@ cut_light was now le = by (nat_lt now was)
     by true = omega arith
     by false = omega arith
 
-pub resizing_small : (r put : Run) (space : Space) (node size now : ℕ) → IsLight r → resize_in (seen r) space node now ≡ Ok size → PutsLength r node size now put → IsSmall (with_length put node now) (resize_weight size now) put.next
+pub resizing_small : (r put : Tx) (space : Space) (node size now : ℕ) → IsLight r → resize_in (seen r) space node now ≡ Ok size → PutsLength r node size now put → IsSmall (with_length put node now) (resize_weight size now) put.next
 resizing_small r put space node size now light judged puts =
     let short = lengths_short (seen r) space node now size judged in
     let ready = puts.resizes.ready light.ready in
     let first = puts.keys light.ready in
     let last = keys_put put (inode_key node) (inode_value 2 now) ready in
     counts_small r (with_length put node now) (resize_weight size now) put.next (keys_cut size now + 1) light
-    (ready_put put (inode_key node) (inode_value 2 now) ready) (ap (λ (x : Run). x.weight) puts.resizes.same) (omega arith) (omega arith) (cut_light size now short.0)
+    (ready_put put (inode_key node) (inode_value 2 now) ready) (ap (λ (x : Tx). x.weight) puts.resizes.same) (omega arith) (omega arith) (cut_light size now short.0)
 
 -- ---- names that go
 
@@ -161,7 +161,7 @@ lost_light : (size : ℕ) (open_now : Bool) → size ≤ greatest_length → 4 +
 lost_light size true le = omega arith
 lost_light size false le = omega arith
 
-unnaming_small : (r put : Run) (leaf : Leaf) (open_now : Bool) → IsLight r → leaf.size ≤ greatest_length → Unnames r leaf open_now put → IsSmall put (4 + chunks_gone leaf open_now) put.next
+unnaming_small : (r put : Tx) (leaf : Leaf) (open_now : Bool) → IsLight r → leaf.size ≤ greatest_length → Unnames r leaf open_now put → IsSmall put (4 + chunks_gone leaf open_now) put.next
 unnaming_small r put leaf open_now light short unnames =
     follows_small r put (4 + chunks_gone leaf open_now) put.next (2 + chunks_gone leaf open_now) light (unnames_follows r put leaf open_now unnames) (omega arith) (lost_light leaf.size open_now short)
 
@@ -196,10 +196,10 @@ removed_short m route leaf e =
         let last = then_ok (ENOTEMPTY when has_names m n) (Ok (leaf_at w n 0)) leaf (then_ok (ENOTDIR when not (kind == 1)) ((ENOTEMPTY when has_names m n) >> Ok (leaf_at w n 0)) leaf e) in
         subst (λ (l : Leaf). l.size ≤ greatest_length) (ok_is (leaf_at w n 0) leaf last) (omega arith)
 
-pub unlinking_small : (r put : Run) (route : Route) (leaf : Leaf) (open_now : Bool) → IsLight r → unlink_in (seen r) route ≡ Ok leaf → Unnames r leaf open_now put → IsSmall put (4 + chunks_gone leaf open_now) put.next
+pub unlinking_small : (r put : Tx) (route : Route) (leaf : Leaf) (open_now : Bool) → IsLight r → unlink_in (seen r) route ≡ Ok leaf → Unnames r leaf open_now put → IsSmall put (4 + chunks_gone leaf open_now) put.next
 unlinking_small r put route leaf open_now light judged unnames = unnaming_small r put leaf open_now light (unlinked_short (seen r) route leaf judged) unnames
 
-pub rmdir_small : (r put : Run) (route : Route) (leaf : Leaf) (open_now : Bool) → IsLight r → rmdir_in (seen r) route ≡ Ok leaf → Unnames r leaf open_now put → IsSmall put (4 + chunks_gone leaf open_now) put.next
+pub rmdir_small : (r put : Tx) (route : Route) (leaf : Leaf) (open_now : Bool) → IsLight r → rmdir_in (seen r) route ≡ Ok leaf → Unnames r leaf open_now put → IsSmall put (4 + chunks_gone leaf open_now) put.next
 rmdir_small r put route leaf open_now light judged unnames = unnaming_small r put leaf open_now light (removed_short (seen r) route leaf judged) unnames
 
 -- ---- an entry that moves
@@ -254,7 +254,7 @@ replaced_light : (o : Option Leaf) (is_open : ℕ → Bool) → IfSome o (λ lea
 replaced_light None is_open h = omega arith
 replaced_light (Some leaf) is_open h = lost_light leaf.size (is_open leaf.node) h
 
-pub renaming_small : (r put : Run) (from to : Route) (move : Move) (is_open : ℕ → Bool) → IsLight r → rename_in (seen r) from to ≡ Ok (Some move) → Replaces r move.replaced is_open put → IsSmall (with_moved put move) (4 + chunks_replaced move.replaced is_open) put.next
+pub renaming_small : (r put : Tx) (from to : Route) (move : Move) (is_open : ℕ → Bool) → IsLight r → rename_in (seen r) from to ≡ Ok (Some move) → Replaces r move.replaced is_open put → IsSmall (with_moved put move) (4 + chunks_replaced move.replaced is_open) put.next
 renaming_small r put from to move is_open light judged replaces =
     let c = chunks_replaced move.replaced is_open in
     let gone = follows_deleted r put (entry_key move.parent move.name) (1 + c) (replaces_follows r put move.replaced is_open replaces) in
@@ -271,13 +271,13 @@ released_short (Some (kind, long)) size e = by (nat_lt greatest_length long) ref
     by true f g = absurd (cc)
     by false f g = let same : long ≡ size = ok_is long size g in grind (arith, nat_tests)
 
-drop_follows : (r put : Run) (node size : ℕ) → Goes r node size put → Follows r (deleted_in put (orphan_key node)) (chunks_for size + 1 + 1)
+drop_follows : (r put : Tx) (node size : ℕ) → Goes r node size put → Follows r (deleted_in put (orphan_key node)) (chunks_for size + 1 + 1)
 drop_follows r put node size goes = follows_deleted r put (orphan_key node) (chunks_for size + 1) (goes_follows r put node size goes)
 
-pub releasing_small : (r put : Run) (node size : ℕ) → IsLight r → release_at (inode_in (seen r) node) ≡ Ok size → Goes r node size put → IsSmall (deleted_in put (orphan_key node)) (4 + chunks_for size) put.next
+pub releasing_small : (r put : Tx) (node size : ℕ) → IsLight r → release_at (inode_in (seen r) node) ≡ Ok size → Goes r node size put → IsSmall (deleted_in put (orphan_key node)) (4 + chunks_for size) put.next
 releasing_small r put node size light judged goes =
     let short = released_short (inode_in (seen r) node) size judged in
     follows_small r (deleted_in put (orphan_key node)) (4 + chunks_for size) put.next (chunks_for size + 1 + 1) light (drop_follows r put node size goes) (omega arith) (lost_light size false short)
 
-pub clearing_small : (r put : Run) (node size : ℕ) → IsFresh r → size ≤ greatest_length → Goes r node size put → changed_keys (deleted_in put (orphan_key node)) ≤ most_keys
+pub clearing_small : (r put : Tx) (node size : ℕ) → IsFresh r → size ≤ greatest_length → Goes r node size put → changed_keys (deleted_in put (orphan_key node)) ≤ most_keys
 clearing_small r put node size fresh short goes = let few = (drop_follows r put node size goes).few (fresh_ready r fresh) in let none = fresh_keys r fresh in omega arith

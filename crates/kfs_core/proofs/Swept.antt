@@ -11,7 +11,7 @@ use Rattle.kfs_objects.specs.Records.{read_inode}
 use Rattle.kfs_judge.specs.Judging.{is_key}
 use Rattle.kfs_shows.proofs.Lookups.{decide_number, key_removed, key_kept}
 use Rattle.kfs_shows.proofs.KeysApart.{kinds, tails, same_inode}
-use Rattle.kfs_tx.specs.Run.{Run, IsReady, seen, committed, deleted_in}
+use Rattle.kfs_tx.specs.Tx.{Tx, IsReady, seen, committed, deleted_in}
 use Rattle.kfs_tx.proofs.Seeing.{ready_deleted, seen_deleted, seen_committed}
 use Rattle.kfs_core.specs.Clearing.{Clears, IsTidy, IsRoomy, Sweeps, IsOrphanFronted}
 use Rattle.kfs_core.specs.Flat.{inode_in}
@@ -55,16 +55,16 @@ tidy_after old new swept tidy = record {
 -- ---- room
 
 -- where the objects have room, fewer of them have
-pub roomy_after : (old new : Run) → Clears old new → Sweeps (seen old) (seen new) → IsRoomy old → IsRoomy new
+pub roomy_after : (old new : Tx) → Clears old new → Sweeps (seen old) (seen new) → IsRoomy old → IsRoomy new
 roomy_after old new clears swept room =
-    room_left old.machine new.machine (seen old) (seen new) (ap (λ (r : Run). r.machine.room_keys) clears.same) (ap (λ (r : Run). r.machine.room_pages) clears.same) swept.kept room
+    room_left old.machine new.machine (seen old) (seen new) (ap (λ (r : Tx). r.machine.room_keys) clears.same) (ap (λ (r : Tx). r.machine.room_pages) clears.same) swept.kept room
 
 -- ---- one node
 
 pub orphan_apart : (n m : ℕ) → n < 2 ^ 64 → m < 2 ^ 64 → n ≢ m → orphan_key n ≢ orphan_key m
 orphan_apart n m low lower other e = other (same_inode n m low lower (ap (λ (xs : List ℕ). 105 ∷ xs) (tails 111 111 _ _ e)))
 
-module _ (old new : Run) (node size : ℕ) (goes : Goes old node size new) (ready : IsReady old) (low : node < 2 ^ 64) (short : size ≤ 2 ^ 20) where
+module _ (old new : Tx) (node size : ℕ) (goes : Goes old node size new) (ready : IsReady old) (low : node < 2 ^ 64) (short : size ≤ 2 ^ 20) where
   abbrev after : Objects
   after = objects.remove (seen new) (orphan_key node)
 
@@ -112,7 +112,7 @@ module _ (old new : Run) (node size : ℕ) (goes : Goes old node size new) (read
       subst (Sweeps (seen old)) (sym now) one_sweeps
 
   -- and has gone after the commit
-  pub one_swept : (key : List ℕ) → key ≡ orphan_key node → (r : Run) → r ≡ committed (deleted_in new key) → Sweeps (seen old) (seen r)
+  pub one_swept : (key : List ℕ) → key ≡ orphan_key node → (r : Tx) → r ≡ committed (deleted_in new key) → Sweeps (seen old) (seen r)
   one_swept key is r done =
       let held = (goes_follows old new node size goes).ready ready in
       let now : seen r ≡ seen (deleted_in new key) = ap seen done ∙ seen_committed (deleted_in new key) (ready_deleted new key held) in
@@ -123,7 +123,7 @@ module _ (old new : Run) (node size : ℕ) (goes : Goes old node size new) (read
   deleted_roomy key is room =
       let follows = follows_deleted old new key _ (goes_follows old new node size goes) in
       let same = follows.same in
-      room_left old.machine (deleted_in new key).machine (seen old) (seen (deleted_in new key)) (ap (λ (r : Run). r.machine.room_keys) same) (ap (λ (r : Run). r.machine.room_pages) same) (deleted_sweeps key is).kept room
+      room_left old.machine (deleted_in new key).machine (seen old) (seen (deleted_in new key)) (ap (λ (r : Tx). r.machine.room_keys) same) (ap (λ (r : Tx). r.machine.room_pages) same) (deleted_sweeps key is).kept room
 
 -- ---- the key of an orphan object
 

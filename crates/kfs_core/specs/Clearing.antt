@@ -9,7 +9,7 @@ use Rattle.kfs_judge.specs.Judging.{is_key}
 use Rattle.kfs_model.specs.Tree.{Tree, IsTree, IsKept, named, greatest_length}
 use Rattle.kfs_shows.specs.Shows.{Shows}
 use Rattle.kv_device.specs.Calls.{has_room}
-use Rattle.kfs_tx.specs.Run.{Run, started, seen, HasCause, SameBounds}
+use Rattle.kfs_tx.specs.Tx.{Tx, started, seen, HasCause, SameBounds}
 use Rattle.kfs_core.specs.Flat.{inode_in}
 
 -- whatever tree the objects showed, they show it still, without some of its nameless nodes, possibly none
@@ -41,32 +41,32 @@ abbrev pub AreNodesNamed : Objects → Type 0
 AreNodesNamed m = (key value : List ℕ) → objects.get m key ≡ Some value → is_wanted inode_front inode_front key ≡ true → is_key key ≡ true
 
 -- with nothing pending, and nothing changed but what is stored
-abbrev pub begun_over : Machine → Objects → ℕ → ℕ → Run
+abbrev pub begun_over : Machine → Objects → ℕ → ℕ → Tx
 begun_over m now changes next = started (record m { stable = now }) changes next
 
 -- a running transaction with nothing in it
-pub record IsFresh (r : Run) : Type 0 where
+pub record IsFresh (r : Tx) : Type 0 where
   pub up : r.machine.up ≡ true
   pub pending : r.machine.pending ≡ Some objects.empty ∷ None ∷ None ∷ None ∷ []
-  pub tx : r.tx ≡ 0
+  pub id : r.id ≡ 0
   pub since : r.since ≡ 0
   pub weight : r.weight ≡ 0
 
--- the same run over other stored objects
-abbrev pub with_stable : Run → Objects → Run
+-- the same tx over other stored objects
+abbrev pub with_stable : Tx → Objects → Tx
 with_stable r now = record r { machine = record r.machine { stable = now } }
 
 -- nodes without a name were removed, and nothing else changed
-pub record Clears (old new : Run) : Type 0 where
+pub record Clears (old new : Tx) : Type 0 where
   pub same : new ≡ with_stable old new.machine.stable
   pub keeps : Keeps old.machine.stable new.machine.stable
 
 -- the objects that the transaction sees have room
-abbrev pub IsRoomy : Run → Type 0
+abbrev pub IsRoomy : Tx → Type 0
 IsRoomy r = has_room r.machine (seen r) ≡ true
 
 -- a failure between, by the count that rose or for want of memory: what stands shows the tree still, without some of its nameless nodes, possibly none
-pub record ClearFails (old : Run) (fault : DeviceFault) (new : Machine) : Type 0 where
+pub record ClearFails (old : Tx) (fault : DeviceFault) (new : Machine) : Type 0 where
   pub cause : HasCause old.machine fault new
   pub keeps : Keeps old.machine.stable new.stable
   pub bounds : SameBounds old.machine new

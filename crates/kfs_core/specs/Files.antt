@@ -10,13 +10,13 @@ use Rattle.kfs_path.specs.declared.call.Errno.TheVariants.{ENOENT, EISDIR, EFBIG
 use Rattle.kfs_model.specs.Ladder.{◌>>=◌, ◌>>◌, ◌when◌}
 use Rattle.kfs_model.specs.Tree.{greatest_length}
 use Rattle.kfs_model.specs.Change.{spanned}
-use Rattle.kfs_tx.specs.Run.{Run, seen, put_in, one_change, PutFault, GetFault, ChangeFault}
+use Rattle.kfs_tx.specs.Tx.{Tx, seen, put_in, one_change, PutFault, GetFault, ChangeFault}
 use Rattle.kfs_file.specs.Contents.{WritesFile, ReadsFile, ChangesAtMost, touched}
 use Rattle.kfs_file.specs.Contents as contents
 use Rattle.kfs_core.specs.declared.fault.CoreFault.{CoreFault}
 use Rattle.kfs_core.specs.declared.fault.CoreFault.TheVariants.{No, Device}
 use Rattle.kfs_core.specs.declared.room.Space.{Space}
-use Rattle.kfs_core.specs.Core.{KfsState, run_in, Stays, Takes, Same}
+use Rattle.kfs_core.specs.Core.{KfsState, tx_in, Stays, Takes, Same}
 use Rattle.kfs_core.specs.Flat.{inode_in}
 use Rattle.kfs_core.specs.Gives.{Fails}
 use Rattle.kfs_core.specs.Room.{space_in, chunks_for, fits_in, grown}
@@ -43,39 +43,39 @@ write_in m space node offset count = do
   Ok size
 
 -- the bytes are written into the chunks that hold them
-pub record PutsBytes (old : Run) (node offset : ℕ) (given : List ℕ) (new : Run) : Type 0 where
+pub record PutsBytes (old : Tx) (node offset : ℕ) (given : List ℕ) (new : Tx) : Type 0 where
   pub writes : WritesFile old node offset given new
   pub keys : ChangesAtMost old (touched offset (length given)) new
 
 -- a file's inode has another length
-abbrev pub with_length : Run → ℕ → ℕ → Run
+abbrev pub with_length : Tx → ℕ → ℕ → Tx
 with_length r node size = put_in r (inode_key node) (inode_value 2 size)
 
 -- the bytes are written, the inode has the new length, and that is one change
-abbrev pub Wrote : Run → ℕ → ℕ → ℕ → List ℕ → Run → Type 0
+abbrev pub Wrote : Tx → ℕ → ℕ → ℕ → List ℕ → Tx → Type 0
 Wrote old node size offset given new =
-    (put : Run) × PutsBytes old node offset given put × (new ≡ one_change (with_length put node (grown size offset (length given))) (2 + spanned offset (length given)) put.next)
+    (put : Tx) × PutsBytes old node offset given put × (new ≡ one_change (with_length put node (grown size offset (length given))) (2 + spanned offset (length given)) put.next)
 
 -- what failed of it
-abbrev pub WriteFault : Run → ℕ → ℕ → ℕ → List ℕ → DeviceFault → Machine → Type 0
+abbrev pub WriteFault : Tx → ℕ → ℕ → ℕ → List ℕ → DeviceFault → Machine → Type 0
 WriteFault old node size offset given fault new =
     contents.Fails old (touched offset (length given)) fault new
-    ⊎ ((put : Run) × PutsBytes old node offset given put × (
+    ⊎ ((put : Tx) × PutsBytes old node offset given put × (
     PutFault put (inode_key node) (inode_value 2 (grown size offset (length given))) fault new
     ⊎ ChangeFault (with_length put node (grown size offset (length given))) (2 + spanned offset (length given)) put.next fault new))
 
 abbrev pub WriteFails : KfsState → ℕ → ℕ → List ℕ → CoreFault → KfsState → Type 0
-WriteFails old node offset given (No e) new = (write_in (seen (run_in old)) (space_in old) node offset (length given) ≡ Err e) × Same old new
+WriteFails old node offset given (No e) new = (write_in (seen (tx_in old)) (space_in old) node offset (length given) ≡ Err e) × Same old new
 WriteFails old node offset given (Device fault) new =
     Stays old new × (
-    GetFault (run_in old) fault (run_in new).machine
-    ⊎ ((size : ℕ) × (write_in (seen (run_in old)) (space_in old) node offset (length given) ≡ Ok size) × WriteFault (run_in old) node size offset (take (fits_in (space_in old) size offset (length given)) given) fault (run_in new).machine))
+    GetFault (tx_in old) fault (tx_in new).machine
+    ⊎ ((size : ℕ) × (write_in (seen (tx_in old)) (space_in old) node offset (length given) ≡ Ok size) × WriteFault (tx_in old) node size offset (take (fits_in (space_in old) size offset (length given)) given) fault (tx_in new).machine))
 
 -- what writing did: the judge over the objects, as many bytes as fit, and the chunks that come
 abbrev pub WriteDoes : KfsState → ℕ → ℕ → List ℕ → Result ℕ CoreFault → KfsState → Type 0
 WriteDoes old node offset given (Ok n) new =
-    (size : ℕ) × (write_in (seen (run_in old)) (space_in old) node offset (length given) ≡ Ok size)
+    (size : ℕ) × (write_in (seen (tx_in old)) (space_in old) node offset (length given) ≡ Ok size)
     × (n ≡ fits_in (space_in old) size offset (length given))
-    × Wrote (run_in old) node size offset (take n given) (run_in new)
+    × Wrote (tx_in old) node size offset (take n given) (tx_in new)
     × Takes old (chunks_for (grown size offset n) - chunks_for size) new
 WriteDoes old node offset given (Err fault) new = WriteFails old node offset given fault new

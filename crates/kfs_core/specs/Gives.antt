@@ -2,7 +2,7 @@
 use Rattle.std.specs.Prelude.{◌≡◌, Result, Ok, Err}
 use Rattle.kv_device.specs.declared.fault.DeviceFault.TheVariants.{Memory}
 use Rattle.kfs_path.specs.declared.call.Errno.{Errno}
-use Rattle.kfs_tx.specs.Run.{Run, GetFault, CommitFault}
+use Rattle.kfs_tx.specs.Tx.{Tx, GetFault, CommitFault}
 use Rattle.kfs_core.specs.declared.fault.CoreFault.{CoreFault}
 use Rattle.kfs_core.specs.declared.fault.CoreFault.TheVariants.{No, Device}
 
@@ -14,17 +14,17 @@ abbrev pub Gives : {X Y : Type 0} → (X → Y) → Result X CoreFault → Resul
 Gives view (Ok x) given = given ≡ Ok (view x)
 Gives view (Err e) given = Fails e given
 
--- a call that only reads: it leaves the run, or the device or memory failed
-abbrev pub LeavesAtFault : Run → CoreFault → Run → Type 0
+-- a call that only reads: it leaves the tx, or the device or memory failed
+abbrev pub LeavesAtFault : Tx → CoreFault → Tx → Type 0
 LeavesAtFault old (No e) new = new ≡ old
 LeavesAtFault old (Device fault) new = GetFault old fault new.machine
 
-abbrev pub Leaves : {X : Type 0} → Run → Result X CoreFault → Run → Type 0
+abbrev pub Leaves : {X : Type 0} → Tx → Result X CoreFault → Tx → Type 0
 Leaves old (Ok x) new = new ≡ old
 Leaves old (Err e) new = LeavesAtFault old e new
 
 -- a commit refuses by no error of its own
-abbrev pub CommitFails : Run → Run → CoreFault → Type 0
+abbrev pub CommitFails : Tx → Tx → CoreFault → Type 0
 CommitFails old new (No e) = ⊥
 CommitFails old new (Device fault) = CommitFault old fault new.machine
 

@@ -12,13 +12,13 @@ use Rattle.kfs_path.specs.declared.call.Errno.TheVariants.{ENOENT, ENOTDIR, EPER
 use Rattle.kfs_model.specs.Ladder.{◌>>=◌, ◌>>◌, ◌when◌}
 use Rattle.kfs_model.specs.Tree.{greatest_length, is_dot, is_dot_dot}
 use Rattle.kfs_model.specs.Step.{Route, is_root, ends_by, ends_in_dots}
-use Rattle.kfs_tx.specs.Run.{Run, put_in, deleted_in, one_change, GetFault, ChangeFault}
+use Rattle.kfs_tx.specs.Tx.{Tx, put_in, deleted_in, one_change, GetFault, ChangeFault}
 use Rattle.kfs_file.specs.Contents.{RemovesChunks, ChangesAtMost, Fails}
 use Rattle.kfs_core.specs.declared.fault.CoreFault.{CoreFault}
 use Rattle.kfs_core.specs.declared.fault.CoreFault.TheVariants.{No, Device}
 pub use Rattle.kfs_core.specs.declared.removing.Leaf.{Leaf}
 pub use Rattle.kfs_core.specs.Room.{chunks_for}
-use Rattle.kfs_core.specs.Core.{KfsState, run_in, Stays, Same}
+use Rattle.kfs_core.specs.Core.{KfsState, tx_in, Stays, Same}
 use Rattle.kfs_core.specs.Flat.{Where, at_root, walk_in, found_in}
 use Rattle.kfs_core.specs.Making.{parent_of}
 
@@ -79,19 +79,19 @@ TellsNode judged n = (leaf : Leaf) × (judged ≡ Ok leaf) × (n ≡ leaf.node)
 -- ---- effects
 
 -- a node's chunks and inode are gone
-pub record Goes (old : Run) (node size : ℕ) (new : Run) : Type 0 where
-  pub mid : Run
+pub record Goes (old : Tx) (node size : ℕ) (new : Tx) : Type 0 where
+  pub mid : Tx
   pub chunks : RemovesChunks old node 0 (chunks_for size) mid
   pub few : ChangesAtMost old (chunks_for size) mid
   pub inode : new ≡ deleted_in mid (inode_key node)
 
 -- a node that lost its name gets an orphan object where it is open, else it goes
-abbrev pub Loses : Run → ℕ → ℕ → Bool → Run → Type 0
+abbrev pub Loses : Tx → ℕ → ℕ → Bool → Tx → Type 0
 Loses old node size true new = new ≡ put_in old (orphan_key node) orphan_value
 Loses old node size false new = Goes old node size new
 
 -- the entry is taken away, and its node loses its name
-abbrev pub Unnames : Run → Leaf → Bool → Run → Type 0
+abbrev pub Unnames : Tx → Leaf → Bool → Tx → Type 0
 Unnames old leaf open_now new = Loses (deleted_in old (entry_key leaf.parent leaf.name)) leaf.node leaf.size open_now new
 
 -- the chunks, and the keys of the charge, that go with the node
@@ -105,16 +105,16 @@ abbrev pub keys_gone : Leaf → Bool → ℕ
 keys_gone leaf open_now = if open_now then 0 else 2 + chunks_for leaf.size
 
 -- the same, as one change
-pub record Unlinks (old : Run) (leaf : Leaf) (open_now : Bool) (new : Run) : Type 0 where
-  pub mid : Run
+pub record Unlinks (old : Tx) (leaf : Leaf) (open_now : Bool) (new : Tx) : Type 0 where
+  pub mid : Tx
   pub unnames : Unnames old leaf open_now mid
   pub change : new ≡ one_change mid (4 + chunks_gone leaf open_now) mid.next
 
 -- in the middle, or where the change was counted
-abbrev pub UnlinkFault : Run → Leaf → Bool → DeviceFault → Machine → Type 0
+abbrev pub UnlinkFault : Tx → Leaf → Bool → DeviceFault → Machine → Type 0
 UnlinkFault old leaf open_now fault new =
     Fails old (2 + chunks_gone leaf open_now) fault new
-    ⊎ ((mid : Run) × Unnames old leaf open_now mid × ChangeFault mid (4 + chunks_gone leaf open_now) mid.next fault new)
+    ⊎ ((mid : Tx) × Unnames old leaf open_now mid × ChangeFault mid (4 + chunks_gone leaf open_now) mid.next fault new)
 
 -- so many keys and chunks fewer are taken
 abbrev pub Frees : KfsState → ℕ → ℕ → KfsState → Type 0
@@ -124,13 +124,13 @@ Frees old keys chunks new = new ≡ record old { running = new.running; charge =
 pub record Unlinked (old : KfsState) (judged : Result Leaf Errno) (is_open : ℕ → Bool) (new : KfsState) : Type 0 where
   pub leaf : Leaf
   pub judge : judged ≡ Ok leaf
-  pub effect : Unlinks (run_in old) leaf (is_open leaf.node) (run_in new)
+  pub effect : Unlinks (tx_in old) leaf (is_open leaf.node) (tx_in new)
   pub frees : Frees old (keys_gone leaf (is_open leaf.node)) (chunks_gone leaf (is_open leaf.node)) new
 
 abbrev pub UnlinkFails : KfsState → Result Leaf Errno → (ℕ → Bool) → CoreFault → KfsState → Type 0
 UnlinkFails old judged is_open (No e) new = (judged ≡ Err e) × Same old new
 UnlinkFails old judged is_open (Device fault) new =
-    Stays old new × (GetFault (run_in old) fault (run_in new).machine ⊎ ((leaf : Leaf) × (judged ≡ Ok leaf) × UnlinkFault (run_in old) leaf (is_open leaf.node) fault (run_in new).machine))
+    Stays old new × (GetFault (tx_in old) fault (tx_in new).machine ⊎ ((leaf : Leaf) × (judged ≡ Ok leaf) × UnlinkFault (tx_in old) leaf (is_open leaf.node) fault (tx_in new).machine))
 
 -- what taking a name away did: the judge over the objects, the effect, and what is free then
 abbrev pub UnlinkDoes : {X : Type 0} → KfsState → Result Leaf Errno → (ℕ → Bool) → Result X CoreFault → KfsState → Type 0
@@ -140,26 +140,26 @@ UnlinkDoes old judged is_open (Err fault) new = UnlinkFails old judged is_open f
 -- ---- a node without a name
 
 -- it goes with its orphan object, as one change
-pub record Releases (old : Run) (node size : ℕ) (new : Run) : Type 0 where
-  pub mid : Run
+pub record Releases (old : Tx) (node size : ℕ) (new : Tx) : Type 0 where
+  pub mid : Tx
   pub goes : Goes old node size mid
   pub change : new ≡ one_change (deleted_in mid (orphan_key node)) (4 + chunks_for size) mid.next
 
-abbrev pub ReleaseFault : Run → ℕ → ℕ → DeviceFault → Machine → Type 0
+abbrev pub ReleaseFault : Tx → ℕ → ℕ → DeviceFault → Machine → Type 0
 ReleaseFault old node size fault new =
     Fails old (2 + chunks_for size) fault new
-    ⊎ ((mid : Run) × Goes old node size mid × ChangeFault (deleted_in mid (orphan_key node)) (4 + chunks_for size) mid.next fault new)
+    ⊎ ((mid : Tx) × Goes old node size mid × ChangeFault (deleted_in mid (orphan_key node)) (4 + chunks_for size) mid.next fault new)
 
 pub record Released (old : KfsState) (node : ℕ) (judged : Result ℕ Errno) (new : KfsState) : Type 0 where
   pub size : ℕ
   pub judge : judged ≡ Ok size
-  pub effect : Releases (run_in old) node size (run_in new)
+  pub effect : Releases (tx_in old) node size (tx_in new)
   pub frees : Frees old (2 + chunks_for size) (chunks_for size) new
 
 abbrev pub ReleaseFails : KfsState → ℕ → Result ℕ Errno → CoreFault → KfsState → Type 0
 ReleaseFails old node judged (No e) new = (judged ≡ Err e) × Same old new
 ReleaseFails old node judged (Device fault) new =
-    Stays old new × (GetFault (run_in old) fault (run_in new).machine ⊎ ((size : ℕ) × (judged ≡ Ok size) × ReleaseFault (run_in old) node size fault (run_in new).machine))
+    Stays old new × (GetFault (tx_in old) fault (tx_in new).machine ⊎ ((size : ℕ) × (judged ≡ Ok size) × ReleaseFault (tx_in old) node size fault (tx_in new).machine))
 
 -- what a release did: the judge over the objects, the effect, and what is free then
 abbrev pub ReleaseDoes : {X : Type 0} → KfsState → ℕ → Result ℕ Errno → Result X CoreFault → KfsState → Type 0

@@ -13,12 +13,12 @@ use Rattle.kfs_path.specs.declared.call.Errno.TheVariants.{ENOENT, ENOTDIR, EBUS
 use Rattle.kfs_model.specs.Ladder.{◌>>=◌, ◌>>◌, ◌when◌}
 use Rattle.kfs_model.specs.Tree.{greatest_length}
 use Rattle.kfs_model.specs.Step.{Route, is_root, ends_in_dots, or_else}
-use Rattle.kfs_tx.specs.Run.{Run, put_in, deleted_in, one_change, GetFault, ChangeFault}
+use Rattle.kfs_tx.specs.Tx.{Tx, put_in, deleted_in, one_change, GetFault, ChangeFault}
 use Rattle.kfs_file.specs.Contents.{Fails}
 use Rattle.kfs_core.specs.declared.fault.CoreFault.{CoreFault}
 use Rattle.kfs_core.specs.declared.fault.CoreFault.TheVariants.{No, Device}
 pub use Rattle.kfs_core.specs.declared.renaming.Move.{Move}
-use Rattle.kfs_core.specs.Core.{KfsState, run_in, Stays, Same}
+use Rattle.kfs_core.specs.Core.{KfsState, tx_in, Stays, Same}
 use Rattle.kfs_core.specs.Flat.{Where, at_root, walk_in, found_in}
 use Rattle.kfs_core.specs.Making.{parent_of}
 use Rattle.kfs_core.specs.Removing.{Leaf, Loses, Frees, leaf_at, has_names, chunks_gone, keys_gone}
@@ -106,7 +106,7 @@ pub record IsPlain (move : Move) : Type 0 where
 -- ---- the effect
 
 -- the node that loses its name goes first, or gets its orphan object
-abbrev pub Replaces : Run → Option Leaf → (ℕ → Bool) → Run → Type 0
+abbrev pub Replaces : Tx → Option Leaf → (ℕ → Bool) → Tx → Type 0
 Replaces old None is_open new = new ≡ old
 Replaces old (Some leaf) is_open new = Loses old leaf.node leaf.size (is_open leaf.node) new
 
@@ -119,29 +119,29 @@ keys_replaced None is_open = 0
 keys_replaced (Some leaf) is_open = keys_gone leaf (is_open leaf.node)
 
 -- then the entry moves, in the place of another
-abbrev pub with_moved : Run → Move → Run
+abbrev pub with_moved : Tx → Move → Tx
 with_moved r move = put_in (deleted_in r (entry_key move.parent move.name)) (entry_key move.new_parent move.new_name) (entry_value move.node)
 
 -- the same, as one change
-pub record Moves (old : Run) (move : Move) (is_open : ℕ → Bool) (new : Run) : Type 0 where
-  pub mid : Run
+pub record Moves (old : Tx) (move : Move) (is_open : ℕ → Bool) (new : Tx) : Type 0 where
+  pub mid : Tx
   pub replaces : Replaces old move.replaced is_open mid
   pub change : new ≡ one_change (with_moved mid move) (4 + chunks_replaced move.replaced is_open) mid.next
 
 -- in the middle, or where the change was counted
-abbrev pub MoveFault : Run → Move → (ℕ → Bool) → DeviceFault → Machine → Type 0
+abbrev pub MoveFault : Tx → Move → (ℕ → Bool) → DeviceFault → Machine → Type 0
 MoveFault old move is_open fault new =
     Fails old (3 + chunks_replaced move.replaced is_open) fault new
-    ⊎ ((mid : Run) × Replaces old move.replaced is_open mid × ChangeFault (with_moved mid move) (4 + chunks_replaced move.replaced is_open) mid.next fault new)
+    ⊎ ((mid : Tx) × Replaces old move.replaced is_open mid × ChangeFault (with_moved mid move) (4 + chunks_replaced move.replaced is_open) mid.next fault new)
 
 abbrev pub MovesTo : KfsState → Option Move → (ℕ → Bool) → KfsState → Type 0
 MovesTo old None is_open new = Same old new
-MovesTo old (Some move) is_open new = Moves (run_in old) move is_open (run_in new) × Frees old (keys_replaced move.replaced is_open) (chunks_replaced move.replaced is_open) new
+MovesTo old (Some move) is_open new = Moves (tx_in old) move is_open (tx_in new) × Frees old (keys_replaced move.replaced is_open) (chunks_replaced move.replaced is_open) new
 
 abbrev pub RenameFails : KfsState → Result (Option Move) Errno → (ℕ → Bool) → CoreFault → KfsState → Type 0
 RenameFails old judged is_open (No e) new = (judged ≡ Err e) × Same old new
 RenameFails old judged is_open (Device fault) new =
-    Stays old new × (GetFault (run_in old) fault (run_in new).machine ⊎ ((move : Move) × (judged ≡ Ok (Some move)) × MoveFault (run_in old) move is_open fault (run_in new).machine))
+    Stays old new × (GetFault (tx_in old) fault (tx_in new).machine ⊎ ((move : Move) × (judged ≡ Ok (Some move)) × MoveFault (tx_in old) move is_open fault (tx_in new).machine))
 
 -- what renaming did: the judge over the objects, the effect, and what is free then
 abbrev pub RenameDoes : {X : Type 0} → KfsState → Result (Option Move) Errno → (ℕ → Bool) → Result X CoreFault → KfsState → Type 0

@@ -12,12 +12,12 @@ use Rattle.kfs_objects.specs.Keys.{super_key, inode_key}
 use Rattle.kfs_objects.specs.Records.{super_value, inode_value, read_super}
 use Rattle.kfs_damages.specs.Damages.{IsTreeDamage, IsClear}
 use Rattle.kfs_judge.specs.Judging.{heard, room_in}
-use Rattle.kfs_tx.specs.Run.{SameBounds, CausedAlone}
+use Rattle.kfs_tx.specs.Tx.{SameBounds, CausedAlone}
 use Rattle.kfs_core.specs.declared.fault.HostFault.{HostFault}
 use Rattle.kfs_core.specs.declared.fault.HostFault.TheVariants.{Damaged, Cut, Eio, NoMem}
 use Rattle.kfs_core.specs.Clearing.{Keeps, Cleared, begun_over}
 use Rattle.kfs_core.specs.Counted.{charge_in, chunks_in}
-use Rattle.kfs_core.specs.Core.{KfsState, run_in}
+use Rattle.kfs_core.specs.Core.{KfsState, tx_in}
 
 -- power, the device or memory was missing; the device refused nothing
 abbrev pub IsOutside : DeviceFault → Type 0
@@ -48,24 +48,24 @@ pub record NotMounted (old : Machine) (fault : HostFault) (new : Machine) : Type
 -- nothing was damaged, and a mount began with the numbers of the super that is stored, removed the nameless nodes, and counted the charge and the chunks
 pub record Started (old : Machine) (new : KfsState) : Type 0 where
   pub clear : IsClear (room_in old) (heard old.stable)
-  pub head : option_and_then read_super (objects.get old.stable super_key) ≡ Some ((run_in new).changes, (run_in new).next)
-  pub cleared : Cleared old.stable (run_in new).machine.stable
-  pub run : run_in new ≡ begun_over old (run_in new).machine.stable (run_in new).changes (run_in new).next
+  pub head : option_and_then read_super (objects.get old.stable super_key) ≡ Some ((tx_in new).changes, (tx_in new).next)
+  pub cleared : Cleared old.stable (tx_in new).machine.stable
+  pub tx : tx_in new ≡ begun_over old (tx_in new).machine.stable (tx_in new).changes (tx_in new).next
   pub keys : new.keys ≡ old.room_keys
   pub pages : new.pages ≡ old.room_pages
-  pub charge : new.charge ≡ charge_in (run_in new).machine.stable
-  pub chunks : new.chunks ≡ chunks_in (run_in new).machine.stable
-  pub changes : (run_in new).changes < 2 ^ 62
-  pub next : (run_in new).next < 2 ^ 62
+  pub charge : new.charge ≡ charge_in (tx_in new).machine.stable
+  pub chunks : new.chunks ≡ chunks_in (tx_in new).machine.stable
+  pub changes : (tx_in new).changes < 2 ^ 62
+  pub next : (tx_in new).next < 2 ^ 62
 
 -- the same, of this super
 pub record Starts (old : Machine) (head : Super) (new : KfsState) : Type 0 where
-  pub cleared : Cleared old.stable (run_in new).machine.stable
-  pub run : run_in new ≡ begun_over old (run_in new).machine.stable head.changes head.next
+  pub cleared : Cleared old.stable (tx_in new).machine.stable
+  pub tx : tx_in new ≡ begun_over old (tx_in new).machine.stable head.changes head.next
   pub keys : new.keys ≡ old.room_keys
   pub pages : new.pages ≡ old.room_pages
-  pub charge : new.charge ≡ charge_in (run_in new).machine.stable
-  pub chunks : new.chunks ≡ chunks_in (run_in new).machine.stable
+  pub charge : new.charge ≡ charge_in (tx_in new).machine.stable
+  pub chunks : new.chunks ≡ chunks_in (tx_in new).machine.stable
 
 -- the objects of a root alone
 abbrev pub first_objects : Objects

@@ -3,7 +3,7 @@ ghost use Rattle.kfs_core.specs.Bounds.{CommitIsSmall, MakingIsSmall, WritingIsS
 
 /// No transaction has more than 516 changed keys when it is committed: 255 of the changes since the
 /// last boundary, 260 of the change that brings the boundary, and the super's. Whatever a call's
-/// contract lets it put into a light run and count keeps to that, and leaves a light run.
+/// contract lets it put into a light running and count keeps to that, and leaves a light running.
 pub fn transactions_are_small()
     ensures commit { CommitIsSmall }
     ensures making { MakingIsSmall }

@@ -2,7 +2,7 @@
 ghost use Rattle.std.specs.Prelude.{◌≡◌, ◌≤◌, ◌+◌, ◌<◌, ◌-◌, ◌^◌, true, OnOk, IfOk, IfErr, IfSome};
 ghost use Rattle.std.specs.FinMap as objects;
 ghost use Rattle.kfs_objects.specs.Records.{read_inode};
-ghost use Rattle.kfs_tx.specs.Run.{age_of, Aged, seen, GetFault};
+ghost use Rattle.kfs_tx.specs.Tx.{age_of, Aged, seen, GetFault};
 ghost use Rattle.kfs_judge.specs.Judging.{is_key};
 ghost use Rattle.kfs_core.specs.Clearing.{IsTidy, AreNodesNamed};
 ghost use Rattle.kfs_core.specs.Counted.{weigh, weigh_chunks, charge_in, chunks_in};
@@ -53,19 +53,19 @@ fn weigh_pair(pair: &Pair) -> (u64, u64)
 }
 
 /// The charge and the chunks of the nodes that have inodes.
-pub fn count<D: Device>(alloc: Global, run: &mut Running<D>) -> Result<Taken, DeviceFault>
-    requires age { age_of run.old < 2 ^ 63 - 2 ^ 39 }
-    requires tidy { IsTidy (seen run.old.run) }
-    requires few { objects.len (seen run.old.run) ≤ 68544 }
-    ensures named { OnOk result (AreNodesNamed (seen run.new.run)) }
-    ensures charge { IfOk result (λ n. n.charge ≡ charge_in (seen run.old.run)) }
-    ensures chunks { IfOk result (λ n. n.chunks ≡ chunks_in (seen run.old.run)) }
-    ensures same { OnOk result (run.new.run ≡ run.old.run) }
-    ensures err { IfErr result (λ fault. GetFault run.old.run fault run.new.run.machine) }
-    ensures age { Aged run.old run.new 0 }
+pub fn count<D: Device>(alloc: Global, running: &mut Running<D>) -> Result<Taken, DeviceFault>
+    requires age { age_of running.old < 2 ^ 63 - 2 ^ 39 }
+    requires tidy { IsTidy (seen running.old.tx) }
+    requires few { objects.len (seen running.old.tx) ≤ 68544 }
+    ensures named { OnOk result (AreNodesNamed (seen running.new.tx)) }
+    ensures charge { IfOk result (λ n. n.charge ≡ charge_in (seen running.old.tx)) }
+    ensures chunks { IfOk result (λ n. n.chunks ≡ chunks_in (seen running.old.tx)) }
+    ensures same { OnOk result (running.new.tx ≡ running.old.tx) }
+    ensures err { IfErr result (λ fault. GetFault running.old.tx fault running.new.tx.machine) }
+    ensures age { Aged running.old running.new 0 }
 {
     let prefix = inode_prefix(alloc)?;
-    let pairs = run.iterate(alloc, &prefix, &prefix, u32::MAX)?;
+    let pairs = running.iterate(alloc, &prefix, &prefix, u32::MAX)?;
     let mut charge: u64 = 1;
     let mut chunks: u64 = 0;
     for pair in pairs.as_slice() {

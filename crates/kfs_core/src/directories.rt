@@ -1,7 +1,7 @@
 // Directories: the names in one, and the place for a new one.
 ghost use Rattle.std.specs.Prelude.{◌≡◌, ◌+◌, ◌<◌, ◌≤◌, ◌-◌, ◌^◌, true, map, drop, length, All, OnOk, IfOk, IfErr};
 ghost use Rattle.kfs_objects.specs.Keys.{IsNamed};
-ghost use Rattle.kfs_tx.specs.Run.{age_of, Aged, seen, GetFault};
+ghost use Rattle.kfs_tx.specs.Tx.{age_of, Aged, seen, GetFault};
 ghost use Rattle.kfs_core.specs.Flat.{names_of, new_at};
 ghost use Rattle.kfs_core.specs.Gives.{Gives, Leaves};
 ghost use Rattle.kfs_core.specs.Spot.{where_of, route_of};
@@ -21,38 +21,38 @@ const FILE: u8 = 2;
 /// The names in a directory.
 pub fn names<D: Device>(
     alloc: Global,
-    run: &mut Running<D>,
+    running: &mut Running<D>,
     node: u64,
 ) -> Result<Names, DeviceFault>
-    requires { age_of run.old < 2 ^ 63 - 2 ^ 39 }
-    ensures gives { IfOk result (λ names. names ≡ names_of (seen run.old.run) node) }
-    ensures same { OnOk result (run.new.run ≡ run.old.run) }
-    ensures err { IfErr result (λ fault. GetFault run.old.run fault run.new.run.machine) }
-    ensures age { Aged run.old run.new 0 }
+    requires { age_of running.old < 2 ^ 63 - 2 ^ 39 }
+    ensures gives { IfOk result (λ names. names ≡ names_of (seen running.old.tx) node) }
+    ensures same { OnOk result (running.new.tx ≡ running.old.tx) }
+    ensures err { IfErr result (λ fault. GetFault running.old.tx fault running.new.tx.machine) }
+    ensures age { Aged running.old running.new 0 }
 {
-    list(alloc, run, node)
+    list(alloc, running, node)
 }
 
 /// Where a new node goes. A directory is of kind 1, a file of kind 2.
 pub fn place<D: Device>(
     alloc: Global,
-    run: &mut Running<D>,
+    running: &mut Running<D>,
     keys: u32,
     charge: u64,
     kind: u8,
     path: &Path,
 ) -> Result<Spot, CoreFault>
-    requires age { age_of run.old < 2 ^ 63 - 2 ^ 39 }
+    requires age { age_of running.old < 2 ^ 63 - 2 ^ 39 }
     requires charge { charge ≤ keys }
     requires named { All IsNamed path.now.pieces }
-    ensures gives { Gives where_of result (new_at (seen run.old.run) keys charge kind (route_of path.now)) }
+    ensures gives { Gives where_of result (new_at (seen running.old.tx) keys charge kind (route_of path.now)) }
     ensures named { IfOk result (λ spot. IsNamed spot.name) }
     ensures below { IfOk result (λ spot. 0 < length spot.above.items) }
     ensures fits { OnOk result (charge + 2 ≤ keys) }
-    ensures leaves { Leaves run.old.run result run.new.run }
-    ensures age { Aged run.old run.new 0 }
+    ensures leaves { Leaves running.old.tx result running.new.tx }
+    ensures age { Aged running.old running.new 0 }
 {
-    let spot = walk(alloc, run, path.pieces.items())?;
+    let spot = walk(alloc, running, path.pieces.items())?;
     if spot.node.is_some() {
         return Err(CoreFault::No(Errno::EEXIST));
     }

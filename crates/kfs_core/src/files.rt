@@ -2,8 +2,8 @@
 ghost use Rattle.std.specs.Prelude.{◌≡◌, ◌≤◌, ◌<◌, ◌+◌, ◌-◌, ◌^◌, All, length, OnOk, IfOk, IfErr};
 ghost use Rattle.kfs_objects.specs.Keys.{IsNamed};
 ghost use Rattle.kfs_path.specs.declared.call.Reply.TheVariants as replies;
-ghost use Rattle.kfs_tx.specs.Run.{age_of, Aged, seen};
-ghost use Rattle.kfs_core.specs.Core.{run_in, Stays};
+ghost use Rattle.kfs_tx.specs.Tx.{age_of, Aged, seen};
+ghost use Rattle.kfs_core.specs.Core.{tx_in, Stays};
 ghost use Rattle.kfs_core.specs.Flat.{create_at, inode_in, reach_in};
 ghost use Rattle.kfs_core.specs.Files.{file_at, Reads, write_in, Wrote, WriteDoes, WriteFault};
 ghost use Rattle.kfs_core.specs.Gives.{Gives, Leaves};
@@ -33,20 +33,20 @@ impl<D: Device> Kfs<D> {
     pub fn find(&mut self, alloc: Global, path: &Path) -> Result<Option<(u64, Inode)>, CoreFault>
         requires age { age_of self.old.running < 2 ^ 63 - 2 ^ 39 }
         requires named { All IsNamed path.now.pieces }
-        ensures gives { Gives told_of result (reach_in (seen (run_in self.old)) (route_of path.now)) }
-        ensures leaves { Leaves (run_in self.old) result (run_in self.new) }
+        ensures gives { Gives told_of result (reach_in (seen (tx_in self.old)) (route_of path.now)) }
+        ensures leaves { Leaves (tx_in self.old) result (tx_in self.new) }
         ensures rest { Stays self.old self.new }
         ensures age { Aged self.old.running self.new.running 0 }
     {
-        reach(alloc, &mut self.run, path)
+        reach(alloc, &mut self.running, path)
     }
 
     /// Makes a file without bytes, and answers its node.
     pub fn create(&mut self, alloc: Global, path: &Path) -> Result<u64, CoreFault>
         requires age { age_of self.old.running < 2 ^ 63 - 2 ^ 39 }
         requires named { All IsNamed path.now.pieces }
-        ensures node { IfOk result (λ node. node ≡ (run_in self.old).next) }
-        ensures does { CreateDoes (run_in self.old) (create_at (seen (run_in self.old)) self.old.keys self.old.charge (route_of path.now)) result (run_in self.new) }
+        ensures node { IfOk result (λ node. node ≡ (tx_in self.old).next) }
+        ensures does { CreateDoes (tx_in self.old) (create_at (seen (tx_in self.old)) self.old.keys self.old.charge (route_of path.now)) result (tx_in self.new) }
         ensures charge { OnOk result (self.new.charge ≡ self.old.charge + 2) }
         ensures same_charge { IfErr result (λ _. self.new.charge ≡ self.old.charge) }
         ensures chunks { self.new.chunks ≡ self.old.chunks }
@@ -54,10 +54,10 @@ impl<D: Device> Kfs<D> {
         ensures pages { self.new.pages ≡ self.old.pages }
         ensures age { Aged self.old.running self.new.running (2 ^ 16) }
     {
-        let spot = place(alloc, &mut self.run, self.keys, self.charge, 2, path)?;
+        let spot = place(alloc, &mut self.running, self.keys, self.charge, 2, path)?;
         let parent = parent(&spot);
         let name = spot.name.bytes();
-        let node = add_node(alloc, &mut self.run, 2, parent, name)?;
+        let node = add_node(alloc, &mut self.running, 2, parent, name)?;
         self.charge += 2;
         Ok(node)
     }
@@ -71,12 +71,12 @@ impl<D: Device> Kfs<D> {
         count: u32,
     ) -> Result<Text, CoreFault>
         requires { age_of self.old.running < 2 ^ 63 - 2 ^ 39 }
-        ensures reads { Reads (seen (run_in self.old)) node offset count result }
-        ensures leaves { Leaves (run_in self.old) result (run_in self.new) }
+        ensures reads { Reads (seen (tx_in self.old)) node offset count result }
+        ensures leaves { Leaves (tx_in self.old) result (tx_in self.new) }
         ensures rest { Stays self.old self.new }
         ensures age { Aged self.old.running self.new.running 0 }
     {
-        read(alloc, &mut self.run, node, offset, count)
+        read(alloc, &mut self.running, node, offset, count)
     }
 
     /// Writes as many of the bytes, 1 to 1,048,576 of them, into a file as there is room for from an
@@ -94,10 +94,10 @@ impl<D: Device> Kfs<D> {
     {
         let space = self.space();
         let count = bytes.len() as u64;
-        let size = writable(alloc, &mut self.run, &space, node, offset, count)?;
+        let size = writable(alloc, &mut self.running, &space, node, offset, count)?;
         let some = fits(&space, size, offset, count);
         let given = &bytes[..some as usize];
-        let new = put_bytes(alloc, &mut self.run, node, size, offset, given)?;
+        let new = put_bytes(alloc, &mut self.running, node, size, offset, given)?;
         let more = chunks_for(new) - chunks_for(size);
         self.charge += more;
         self.chunks += more;
@@ -131,32 +131,32 @@ impl<D: Device> Kfs<D> {
 
 fn reach<D: Device>(
     alloc: Global,
-    run: &mut Running<D>,
+    running: &mut Running<D>,
     path: &Path,
 ) -> Result<Option<(u64, Inode)>, CoreFault>
-    requires age { age_of run.old < 2 ^ 63 - 2 ^ 39 }
+    requires age { age_of running.old < 2 ^ 63 - 2 ^ 39 }
     requires named { All IsNamed path.now.pieces }
-    ensures gives { Gives told_of result (reach_in (seen run.old.run) (route_of path.now)) }
-    ensures leaves { Leaves run.old.run result run.new.run }
-    ensures age { Aged run.old run.new 0 }
+    ensures gives { Gives told_of result (reach_in (seen running.old.tx) (route_of path.now)) }
+    ensures leaves { Leaves running.old.tx result running.new.tx }
+    ensures age { Aged running.old running.new 0 }
 {
-    let spot = walk(alloc, run, path.pieces.items())?;
-    Ok(found(alloc, run, spot.node)?)
+    let spot = walk(alloc, running, path.pieces.items())?;
+    Ok(found(alloc, running, spot.node)?)
 }
 
 /// The length of a file.
 pub(crate) fn length_of<D: Device>(
     alloc: Global,
-    run: &mut Running<D>,
+    running: &mut Running<D>,
     node: u64,
 ) -> Result<u64, CoreFault>
-    requires { age_of run.old < 2 ^ 63 - 2 ^ 39 }
-    ensures gives { Gives (λ n. n) result (file_at (inode_in (seen run.old.run) node)) }
+    requires { age_of running.old < 2 ^ 63 - 2 ^ 39 }
+    ensures gives { Gives (λ n. n) result (file_at (inode_in (seen running.old.tx) node)) }
     ensures small { IfOk result (λ n. n ≤ 1048576) }
-    ensures leaves { Leaves run.old.run result run.new.run }
-    ensures age { Aged run.old run.new 0 }
+    ensures leaves { Leaves running.old.tx result running.new.tx }
+    ensures age { Aged running.old running.new 0 }
 {
-    match inode(alloc, run, node)? {
+    match inode(alloc, running, node)? {
         None => Err(CoreFault::No(Errno::ENOENT)),
         Some(it) => {
             if it.kind == 1 {
@@ -172,39 +172,39 @@ pub(crate) fn length_of<D: Device>(
 
 fn read<D: Device>(
     alloc: Global,
-    run: &mut Running<D>,
+    running: &mut Running<D>,
     node: u64,
     offset: u64,
     count: u32,
 ) -> Result<Text, CoreFault>
-    requires { age_of run.old < 2 ^ 63 - 2 ^ 39 }
-    ensures reads { Reads (seen run.old.run) node offset count result }
-    ensures leaves { Leaves run.old.run result run.new.run }
-    ensures age { Aged run.old run.new 0 }
+    requires { age_of running.old < 2 ^ 63 - 2 ^ 39 }
+    ensures reads { Reads (seen running.old.tx) node offset count result }
+    ensures leaves { Leaves running.old.tx result running.new.tx }
+    ensures age { Aged running.old running.new 0 }
 {
-    let size = length_of(alloc, run, node)?;
-    Ok(read_at(alloc, run, node, size, offset, count)?)
+    let size = length_of(alloc, running, node)?;
+    Ok(read_at(alloc, running, node, size, offset, count)?)
 }
 
 /// The length of a file into which some of so many bytes may be written from an offset on.
 fn writable<D: Device>(
     alloc: Global,
-    run: &mut Running<D>,
+    running: &mut Running<D>,
     space: &Space,
     node: u64,
     offset: u64,
     count: u64,
 ) -> Result<u64, CoreFault>
-    requires age { age_of run.old < 2 ^ 63 - 2 ^ 39 }
+    requires age { age_of running.old < 2 ^ 63 - 2 ^ 39 }
     requires charge { space.now.charge ≤ space.now.keys }
     requires chunks { space.now.chunks ≤ space.now.pages }
-    ensures gives { Gives (λ n. n) result (write_in (seen run.old.run) space.now node offset count) }
+    ensures gives { Gives (λ n. n) result (write_in (seen running.old.tx) space.now node offset count) }
     ensures small { IfOk result (λ n. n ≤ 1048576) }
     ensures some { IfOk result (λ n. 0 < fits_in space.now n offset count) }
-    ensures leaves { Leaves run.old.run result run.new.run }
-    ensures age { Aged run.old run.new 0 }
+    ensures leaves { Leaves running.old.tx result running.new.tx }
+    ensures age { Aged running.old running.new 0 }
 {
-    let size = length_of(alloc, run, node)?;
+    let size = length_of(alloc, running, node)?;
     if offset >= GREATEST_LENGTH {
         return Err(CoreFault::No(Errno::EFBIG));
     }
@@ -217,30 +217,30 @@ fn writable<D: Device>(
 /// Writes the bytes into a file of so many, as one change, and gives its new length.
 fn put_bytes<D: Device>(
     alloc: Global,
-    run: &mut Running<D>,
+    running: &mut Running<D>,
     node: u64,
     size: u64,
     offset: u64,
     given: &[u8],
 ) -> Result<u64, DeviceFault>
-    requires age { age_of run.old < 2 ^ 63 - 2 ^ 39 }
+    requires age { age_of running.old < 2 ^ 63 - 2 ^ 39 }
     requires size { size ≤ 1048576 }
     requires some { 0 < length given.now }
     requires fits { offset + length given.now ≤ 1048576 }
-    ensures wrote { OnOk result (Wrote run.old.run node size offset given.now run.new.run) }
+    ensures wrote { OnOk result (Wrote running.old.tx node size offset given.now running.new.tx) }
     ensures size { IfOk result (λ n. n ≡ grown size offset (length given.now)) }
-    ensures err { IfErr result (λ fault. WriteFault run.old.run node size offset given.now fault run.new.run.machine) }
-    ensures age { Aged run.old run.new (2 ^ 25) }
+    ensures err { IfErr result (λ fault. WriteFault running.old.tx node size offset given.now fault running.new.tx.machine) }
+    ensures age { Aged running.old running.new (2 ^ 25) }
 {
-    let new = write_at(alloc, run, node, size, offset, given)?;
+    let new = write_at(alloc, running, node, size, offset, given)?;
     let inode = Inode {
         kind: 2,
         length: new,
     };
-    put_inode(alloc, run, node, inode)?;
+    put_inode(alloc, running, node, inode)?;
     let last = (offset + given.len() as u64 - 1) / 4096;
     let chunks = last - offset / 4096 + 1;
-    let next = run.head().next;
-    run.change(alloc, 2 + chunks as u32, next)?;
+    let next = running.head().next;
+    running.change(alloc, 2 + chunks as u32, next)?;
     Ok(new)
 }

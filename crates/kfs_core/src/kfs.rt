@@ -8,9 +8,9 @@ ghost use Rattle.kv_device.specs.Calls.{Ages};
 ghost use Rattle.kfs_objects.specs.Keys.{IsNamed};
 ghost use Rattle.kfs_damages.specs.Damages.{IsClear, HasHead, named_charge, named_chunks};
 ghost use Rattle.kfs_judge.specs.Judging.{heard, room_in};
-ghost use Rattle.kfs_tx.specs.Run.{age_of, Aged, seen, committed};
+ghost use Rattle.kfs_tx.specs.Tx.{age_of, Aged, seen, committed};
 ghost use Rattle.kfs_core.specs.Clearing.{Clears, ClearFails, IsFresh, IsRoomy, IsTidy, NoOrphans};
-ghost use Rattle.kfs_core.specs.Core.{run_in, Stays};
+ghost use Rattle.kfs_core.specs.Core.{tx_in, Stays};
 ghost use Rattle.kfs_core.specs.Counted.{charge_in, chunks_in};
 ghost use Rattle.kfs_core.specs.Flat.{lookup_in, inode_in, inode_at, children_at, place_at};
 ghost use Rattle.kfs_core.specs.Gives.{Gives, Leaves, CommitFails};
@@ -37,7 +37,7 @@ use std::marker::Model;
 /// A mounted file system.
 #[derive(Drop)]
 pub struct Kfs<D: Device> {
-    pub(crate) run: Running<D>,
+    pub(crate) running: Running<D>,
     pub(crate) keys: u32,
     pub(crate) pages: u32,
     pub(crate) charge: u64,
@@ -52,29 +52,29 @@ impl<D: Device> Model for Kfs<D> {
 
     ghost coded = { kfs_code };
 
-    ghost view = { λ k. record { running = k.run; keys = k.keys; pages = k.pages; charge = k.charge; chunks = k.chunks } };
+    ghost view = { λ k. record { running = k.running; keys = k.keys; pages = k.pages; charge = k.charge; chunks = k.chunks } };
 
     ghost invariant = { λ k. (k.charge ≤ k.keys) × (k.chunks ≤ k.pages) };
 }
 
 /// Removes the nodes without a name, and counts what is left.
-fn left_over<D: Device>(alloc: Global, run: &mut Running<D>) -> Result<Taken, DeviceFault>
-    requires age { age_of run.old < 2 ^ 63 - 2 ^ 39 - 2 ^ 38 }
-    requires fresh { IsFresh run.old.run }
-    requires few { objects.len (seen run.old.run) ≤ 68544 }
-    requires tidy { IsTidy (seen run.old.run) }
-    requires room { IsRoomy run.old.run }
-    ensures clears { OnOk result (Clears run.old.run run.new.run) }
-    ensures none { OnOk result (NoOrphans (seen run.new.run)) }
-    ensures charge { IfOk result (λ n. n.charge ≡ charge_in (seen run.new.run)) }
-    ensures chunks { IfOk result (λ n. n.chunks ≡ chunks_in (seen run.new.run)) }
-    ensures charged { IfOk result (λ n. n.charge ≤ named_charge (heard (seen run.old.run))) }
-    ensures chunked { IfOk result (λ n. n.chunks ≤ named_chunks (heard (seen run.old.run))) }
-    ensures err { IfErr result (λ fault. ClearFails run.old.run fault run.new.run.machine) }
-    ensures age { Aged run.old run.new (2 ^ 37) }
+fn left_over<D: Device>(alloc: Global, running: &mut Running<D>) -> Result<Taken, DeviceFault>
+    requires age { age_of running.old < 2 ^ 63 - 2 ^ 39 - 2 ^ 38 }
+    requires fresh { IsFresh running.old.tx }
+    requires few { objects.len (seen running.old.tx) ≤ 68544 }
+    requires tidy { IsTidy (seen running.old.tx) }
+    requires room { IsRoomy running.old.tx }
+    ensures clears { OnOk result (Clears running.old.tx running.new.tx) }
+    ensures none { OnOk result (NoOrphans (seen running.new.tx)) }
+    ensures charge { IfOk result (λ n. n.charge ≡ charge_in (seen running.new.tx)) }
+    ensures chunks { IfOk result (λ n. n.chunks ≡ chunks_in (seen running.new.tx)) }
+    ensures charged { IfOk result (λ n. n.charge ≤ named_charge (heard (seen running.old.tx))) }
+    ensures chunked { IfOk result (λ n. n.chunks ≤ named_chunks (heard (seen running.old.tx))) }
+    ensures err { IfErr result (λ fault. ClearFails running.old.tx fault running.new.tx.machine) }
+    ensures age { Aged running.old running.new (2 ^ 37) }
 {
-    clear(alloc, run)?;
-    let taken = count(alloc, run)?;
+    clear(alloc, running)?;
+    let taken = count(alloc, running)?;
     Ok(taken)
 }
 
@@ -96,16 +96,16 @@ fn start<D: Device>(alloc: Global, device: D, head: Super) -> Result<Kfs<D>, (D,
     let (keys, pages) = device.limits();
     match Running::open(alloc, device, head) {
         Err((device, fault)) => Err((device, host_fault(&fault))),
-        Ok(run) => {
-            let mut run = run;
-            match left_over(alloc, &mut run) {
-                Err(fault) => Err((run.into_device(), host_fault(&fault))),
+        Ok(running) => {
+            let mut running = running;
+            match left_over(alloc, &mut running) {
+                Err(fault) => Err((running.into_device(), host_fault(&fault))),
                 Ok(taken) => {
                     if taken.charge > keys as u64 || taken.chunks > pages as u64 {
                         unreachable!()
                     }
                     Ok(Kfs {
-                        run,
+                        running,
                         keys,
                         pages,
                         charge: taken.charge,
@@ -168,42 +168,42 @@ impl<D: Device> Kfs<D> {
     pub fn lookup(&mut self, alloc: Global, path: &Path) -> Result<u64, CoreFault>
         requires age { age_of self.old.running < 2 ^ 63 - 2 ^ 39 }
         requires named { All IsNamed path.now.pieces }
-        ensures gives { Gives (λ n. n) result (lookup_in (seen (run_in self.old)) (route_of path.now)) }
-        ensures leaves { Leaves (run_in self.old) result (run_in self.new) }
+        ensures gives { Gives (λ n. n) result (lookup_in (seen (tx_in self.old)) (route_of path.now)) }
+        ensures leaves { Leaves (tx_in self.old) result (tx_in self.new) }
         ensures rest { Stays self.old self.new }
         ensures age { Aged self.old.running self.new.running 0 }
     {
-        look_up(alloc, &mut self.run, path)
+        look_up(alloc, &mut self.running, path)
     }
 
     /// The kind and the length of a node of the tree.
     pub fn stat(&mut self, alloc: Global, node: u64) -> Result<Inode, CoreFault>
         requires { age_of self.old.running < 2 ^ 63 - 2 ^ 39 }
-        ensures gives { Gives (λ i. (i.kind, i.length)) result (inode_at (inode_in (seen (run_in self.old)) node)) }
-        ensures leaves { Leaves (run_in self.old) result (run_in self.new) }
+        ensures gives { Gives (λ i. (i.kind, i.length)) result (inode_at (inode_in (seen (tx_in self.old)) node)) }
+        ensures leaves { Leaves (tx_in self.old) result (tx_in self.new) }
         ensures rest { Stays self.old self.new }
         ensures age { Aged self.old.running self.new.running 0 }
     {
-        told(alloc, &mut self.run, node)
+        told(alloc, &mut self.running, node)
     }
 
     /// The names in a directory, sorted by bytes.
     pub fn list(&mut self, alloc: Global, node: u64) -> Result<Names, CoreFault>
         requires { age_of self.old.running < 2 ^ 63 - 2 ^ 39 }
-        ensures gives { Gives (λ names. names) result (children_at (seen (run_in self.old)) node (inode_in (seen (run_in self.old)) node)) }
-        ensures leaves { Leaves (run_in self.old) result (run_in self.new) }
+        ensures gives { Gives (λ names. names) result (children_at (seen (tx_in self.old)) node (inode_in (seen (tx_in self.old)) node)) }
+        ensures leaves { Leaves (tx_in self.old) result (tx_in self.new) }
         ensures rest { Stays self.old self.new }
         ensures age { Aged self.old.running self.new.running 0 }
     {
-        children(alloc, &mut self.run, node)
+        children(alloc, &mut self.running, node)
     }
 
     /// Makes a directory, and answers its node.
     pub fn mkdir(&mut self, alloc: Global, path: &Path) -> Result<u64, CoreFault>
         requires age { age_of self.old.running < 2 ^ 63 - 2 ^ 39 }
         requires named { All IsNamed path.now.pieces }
-        ensures node { IfOk result (λ node. node ≡ (run_in self.old).next) }
-        ensures does { MkdirDoes (run_in self.old) (place_at (seen (run_in self.old)) self.old.keys self.old.charge (route_of path.now)) result (run_in self.new) }
+        ensures node { IfOk result (λ node. node ≡ (tx_in self.old).next) }
+        ensures does { MkdirDoes (tx_in self.old) (place_at (seen (tx_in self.old)) self.old.keys self.old.charge (route_of path.now)) result (tx_in self.new) }
         ensures charge { OnOk result (self.new.charge ≡ self.old.charge + 2) }
         ensures same_charge { IfErr result (λ _. self.new.charge ≡ self.old.charge) }
         ensures chunks { self.new.chunks ≡ self.old.chunks }
@@ -211,10 +211,10 @@ impl<D: Device> Kfs<D> {
         ensures pages { self.new.pages ≡ self.old.pages }
         ensures age { Aged self.old.running self.new.running (2 ^ 16) }
     {
-        let spot = place(alloc, &mut self.run, self.keys, self.charge, 1, path)?;
+        let spot = place(alloc, &mut self.running, self.keys, self.charge, 1, path)?;
         let parent = parent(&spot);
         let name = spot.name.bytes();
-        let node = add_node(alloc, &mut self.run, 1, parent, name)?;
+        let node = add_node(alloc, &mut self.running, 1, parent, name)?;
         self.charge += 2;
         Ok(node)
     }
@@ -222,29 +222,29 @@ impl<D: Device> Kfs<D> {
     /// Commits the running transaction.
     pub fn commit(&mut self, alloc: Global) -> Result<(), CoreFault>
         requires { age_of self.old.running < 2 ^ 63 - 2 ^ 39 }
-        ensures ok { OnOk result (run_in self.new ≡ committed (run_in self.old)) }
-        ensures err { IfErr result (CommitFails (run_in self.old) (run_in self.new)) }
+        ensures ok { OnOk result (tx_in self.new ≡ committed (tx_in self.old)) }
+        ensures err { IfErr result (CommitFails (tx_in self.old) (tx_in self.new)) }
         ensures rest { Stays self.old self.new }
         ensures age { Aged self.old.running self.new.running (2 ^ 16) }
     {
-        self.run.commit(alloc)?;
+        self.running.commit(alloc)?;
         Ok(())
     }
 
     /// How many changes there were.
     pub fn changes(&self) -> u64
-        ensures { result ≡ (run_in self.now).changes }
+        ensures { result ≡ (tx_in self.now).changes }
     {
-        self.run.head().changes
+        self.running.head().changes
     }
 
     /// Gives the device back. What was changed since the last boundary is lost.
     pub fn into_device(self) -> D
-        ensures machine { D.machine result ≡ (run_in self).machine }
+        ensures machine { D.machine result ≡ (tx_in self).machine }
         ensures age { D.age result ≡ self.running.device_age }
         ensures asked { D.asked result ≡ self.running.asked }
     {
-        self.run.into_device()
+        self.running.into_device()
     }
 }
 
@@ -254,38 +254,42 @@ impl<D: PlannedDevice> Kfs<D> {
     pub fn plan_cut(&mut self, n: u32, how: u8)
         requires n { 1 ≤ n }
         requires how { how ≤ 3 }
-        ensures planned { run_in self.new ≡ record (run_in self.old) { machine = with_most_cuts (run_in self.old).machine } }
+        ensures planned { tx_in self.new ≡ record (tx_in self.old) { machine = with_most_cuts (tx_in self.old).machine } }
         ensures rest { Stays self.old self.new }
         ensures age { self.new.running.device_age ≡ self.old.running.device_age }
         ensures asked { self.new.running.asked ≡ asks_cut self.old.running.asked n how }
     {
-        self.run.plan_cut(n, how);
+        self.running.plan_cut(n, how);
     }
 
     /// Plans a fault of the n-th read (kind 0), program (1) or erase (2) from now.
     pub fn plan_fail(&mut self, kind: u8, n: u32)
         requires n { 1 ≤ n }
         requires kind { kind ≤ 2 }
-        ensures planned { run_in self.new ≡ record (run_in self.old) { machine = with_most_faults (run_in self.old).machine (run_in self.new).machine.most_faults } }
-        ensures fewest { (run_in self.old).machine.faults ≤ (run_in self.new).machine.most_faults }
-        ensures most { (run_in self.new).machine.most_faults ≤ one_more (run_in self.old).machine.faults }
+        ensures planned { tx_in self.new ≡ record (tx_in self.old) { machine = with_most_faults (tx_in self.old).machine (tx_in self.new).machine.most_faults } }
+        ensures fewest { (tx_in self.old).machine.faults ≤ (tx_in self.new).machine.most_faults }
+        ensures most { (tx_in self.new).machine.most_faults ≤ one_more (tx_in self.old).machine.faults }
         ensures rest { Stays self.old self.new }
         ensures age { self.new.running.device_age ≡ self.old.running.device_age }
         ensures asked { self.new.running.asked ≡ asks_fault self.old.running.asked kind n }
     {
-        self.run.plan_fail(kind, n);
+        self.running.plan_fail(kind, n);
     }
 }
 
-fn look_up<D: Device>(alloc: Global, run: &mut Running<D>, path: &Path) -> Result<u64, CoreFault>
-    requires age { age_of run.old < 2 ^ 63 - 2 ^ 39 }
+fn look_up<D: Device>(
+    alloc: Global,
+    running: &mut Running<D>,
+    path: &Path,
+) -> Result<u64, CoreFault>
+    requires age { age_of running.old < 2 ^ 63 - 2 ^ 39 }
     requires named { All IsNamed path.now.pieces }
-    ensures gives { Gives (λ n. n) result (lookup_in (seen run.old.run) (route_of path.now)) }
-    ensures leaves { Leaves run.old.run result run.new.run }
-    ensures age { Aged run.old run.new 0 }
+    ensures gives { Gives (λ n. n) result (lookup_in (seen running.old.tx) (route_of path.now)) }
+    ensures leaves { Leaves running.old.tx result running.new.tx }
+    ensures age { Aged running.old running.new 0 }
 {
-    let spot = walk(alloc, run, path.pieces.items())?;
-    match found(alloc, run, spot.node)? {
+    let spot = walk(alloc, running, path.pieces.items())?;
+    match found(alloc, running, spot.node)? {
         None => Err(CoreFault::No(Errno::ENOENT)),
         Some((node, it)) => {
             if it.kind == 1 {
@@ -299,29 +303,33 @@ fn look_up<D: Device>(alloc: Global, run: &mut Running<D>, path: &Path) -> Resul
     }
 }
 
-fn told<D: Device>(alloc: Global, run: &mut Running<D>, node: u64) -> Result<Inode, CoreFault>
-    requires { age_of run.old < 2 ^ 63 - 2 ^ 39 }
-    ensures gives { Gives (λ i. (i.kind, i.length)) result (inode_at (inode_in (seen run.old.run) node)) }
-    ensures leaves { Leaves run.old.run result run.new.run }
-    ensures age { Aged run.old run.new 0 }
+fn told<D: Device>(alloc: Global, running: &mut Running<D>, node: u64) -> Result<Inode, CoreFault>
+    requires { age_of running.old < 2 ^ 63 - 2 ^ 39 }
+    ensures gives { Gives (λ i. (i.kind, i.length)) result (inode_at (inode_in (seen running.old.tx) node)) }
+    ensures leaves { Leaves running.old.tx result running.new.tx }
+    ensures age { Aged running.old running.new 0 }
 {
-    match inode(alloc, run, node)? {
+    match inode(alloc, running, node)? {
         None => Err(CoreFault::No(Errno::ENOENT)),
         Some(it) => Ok(it),
     }
 }
 
-fn children<D: Device>(alloc: Global, run: &mut Running<D>, node: u64) -> Result<Names, CoreFault>
-    requires { age_of run.old < 2 ^ 63 - 2 ^ 39 }
-    ensures gives { Gives (λ names. names) result (children_at (seen run.old.run) node (inode_in (seen run.old.run) node)) }
-    ensures leaves { Leaves run.old.run result run.new.run }
-    ensures age { Aged run.old run.new 0 }
+fn children<D: Device>(
+    alloc: Global,
+    running: &mut Running<D>,
+    node: u64,
+) -> Result<Names, CoreFault>
+    requires { age_of running.old < 2 ^ 63 - 2 ^ 39 }
+    ensures gives { Gives (λ names. names) result (children_at (seen running.old.tx) node (inode_in (seen running.old.tx) node)) }
+    ensures leaves { Leaves running.old.tx result running.new.tx }
+    ensures age { Aged running.old running.new 0 }
 {
-    match inode(alloc, run, node)? {
+    match inode(alloc, running, node)? {
         None => Err(CoreFault::No(Errno::ENOENT)),
         Some(it) => {
             if it.kind == 1 {
-                Ok(names(alloc, run, node)?)
+                Ok(names(alloc, running, node)?)
             } else {
                 Err(CoreFault::No(Errno::ENOTDIR))
             }

@@ -6,7 +6,7 @@ ghost use Rattle.kv_device.specs.Machine.{none_open};
 ghost use Rattle.kv_device.specs.Calls.{Ages};
 ghost use Rattle.kfs_objects.specs.Keys.{super_key};
 ghost use Rattle.kfs_objects.specs.Records.{read_super};
-ghost use Rattle.kfs_tx.specs.Run.{Fallen};
+ghost use Rattle.kfs_tx.specs.Tx.{Fallen};
 ghost use Rattle.kfs_core.specs.Starting.{IsOutside, host_fault};
 
 use crate::HostFault;

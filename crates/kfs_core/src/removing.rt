@@ -3,9 +3,9 @@ ghost use Rattle.std.specs.Prelude.{◌≡◌, ◌+◌, ◌<◌, ◌≤◌, ◌-
 ghost use Rattle.kfs_objects.specs.Keys.{IsNamed, orphan_key};
 ghost use Rattle.kfs_objects.specs.Records.{orphan_value};
 ghost use Rattle.kfs_model.specs.Step.{ends_in_dots, is_root};
-ghost use Rattle.kfs_tx.specs.Run.{age_of, Aged, seen, put_in, GetFault, PutFault};
+ghost use Rattle.kfs_tx.specs.Tx.{age_of, Aged, seen, put_in, GetFault, PutFault};
 ghost use Rattle.kfs_file.specs.Contents.{Fails};
-ghost use Rattle.kfs_core.specs.Core.{run_in};
+ghost use Rattle.kfs_core.specs.Core.{tx_in};
 ghost use Rattle.kfs_core.specs.Flat.{at_root, inode_in, walk_in};
 ghost use Rattle.kfs_core.specs.Gives.{Gives, Leaves};
 ghost use Rattle.kfs_core.specs.Removing.{Loses, Releases, ReleaseDoes, ReleaseFault, TellsNode, UnlinkDoes, UnlinkFault, Unlinks, Unnames, chunks_for, chunks_gone, chunks_lost, dir_to_go, file_to_go, has_names, is_open_in, leaf_at, release_at, rmdir_in, unlink_in};
@@ -39,13 +39,13 @@ impl<D: Device> Kfs<D> {
     pub fn unlink(&mut self, alloc: Global, path: &Path, is_open: &Names) -> Result<u64, CoreFault>
         requires age { age_of self.old.running < 2 ^ 63 - 2 ^ 39 }
         requires named { All IsNamed path.now.pieces }
-        ensures does { UnlinkDoes self.old (unlink_in (seen (run_in self.old)) (route_of path.now)) (is_open_in is_open.now) result self.new }
-        ensures node { IfOk result (λ n. TellsNode (unlink_in (seen (run_in self.old)) (route_of path.now)) n) }
+        ensures does { UnlinkDoes self.old (unlink_in (seen (tx_in self.old)) (route_of path.now)) (is_open_in is_open.now) result self.new }
+        ensures node { IfOk result (λ n. TellsNode (unlink_in (seen (tx_in self.old)) (route_of path.now)) n) }
         ensures age { Aged self.old.running self.new.running (2 ^ 16) }
     {
-        let leaf = named_file(alloc, &mut self.run, path)?;
+        let leaf = named_file(alloc, &mut self.running, path)?;
         let open_now = is_open_in(is_open, leaf.node);
-        take_name(alloc, &mut self.run, &leaf, open_now)?;
+        take_name(alloc, &mut self.running, &leaf, open_now)?;
         if !open_now {
             self.free(chunks_for(leaf.size));
         }
@@ -57,13 +57,13 @@ impl<D: Device> Kfs<D> {
     pub fn rmdir(&mut self, alloc: Global, path: &Path, is_open: &Names) -> Result<u64, CoreFault>
         requires age { age_of self.old.running < 2 ^ 63 - 2 ^ 39 }
         requires named { All IsNamed path.now.pieces }
-        ensures does { UnlinkDoes self.old (rmdir_in (seen (run_in self.old)) (route_of path.now)) (is_open_in is_open.now) result self.new }
-        ensures node { IfOk result (λ n. TellsNode (rmdir_in (seen (run_in self.old)) (route_of path.now)) n) }
+        ensures does { UnlinkDoes self.old (rmdir_in (seen (tx_in self.old)) (route_of path.now)) (is_open_in is_open.now) result self.new }
+        ensures node { IfOk result (λ n. TellsNode (rmdir_in (seen (tx_in self.old)) (route_of path.now)) n) }
         ensures age { Aged self.old.running self.new.running (2 ^ 16) }
     {
-        let leaf = empty_directory(alloc, &mut self.run, path)?;
+        let leaf = empty_directory(alloc, &mut self.running, path)?;
         let open_now = is_open_in(is_open, leaf.node);
-        take_name(alloc, &mut self.run, &leaf, open_now)?;
+        take_name(alloc, &mut self.running, &leaf, open_now)?;
         if !open_now {
             self.free(chunks_for(leaf.size));
         }
@@ -73,11 +73,11 @@ impl<D: Device> Kfs<D> {
     /// Removes a node without a name that is open no more.
     pub fn release(&mut self, alloc: Global, node: u64) -> Result<(), CoreFault>
         requires { age_of self.old.running < 2 ^ 63 - 2 ^ 39 }
-        ensures does { ReleaseDoes self.old node (release_at (inode_in (seen (run_in self.old)) node)) result self.new }
+        ensures does { ReleaseDoes self.old node (release_at (inode_in (seen (tx_in self.old)) node)) result self.new }
         ensures age { Aged self.old.running self.new.running (2 ^ 16) }
     {
-        let size = size_to_go(alloc, &mut self.run, node)?;
-        remove_node(alloc, &mut self.run, node, size)?;
+        let size = size_to_go(alloc, &mut self.running, node)?;
+        remove_node(alloc, &mut self.running, node, size)?;
         self.free(chunks_for(size));
         Ok(())
     }
@@ -123,36 +123,36 @@ pub(crate) fn leaf_at(spot: Spot, node: u64, size: u64) -> Leaf
 /// How far a walk came that ends in a name.
 pub(crate) fn walk_to_name<D: Device>(
     alloc: Global,
-    run: &mut Running<D>,
+    running: &mut Running<D>,
     pieces: &[Text],
 ) -> Result<Spot, CoreFault>
-    requires age { age_of run.old < 2 ^ 63 - 2 ^ 39 }
+    requires age { age_of running.old < 2 ^ 63 - 2 ^ 39 }
     requires named { All IsNamed pieces.now }
     requires plain { ends_in_dots pieces.now ≡ false }
     requires some { is_root pieces.now ≡ false }
-    ensures gives { Gives where_of result (walk_in (seen run.old.run) at_root pieces.now) }
+    ensures gives { Gives where_of result (walk_in (seen running.old.tx) at_root pieces.now) }
     ensures named { IfOk result (λ spot. IsNamed spot.name) }
     ensures below { IfOk result (λ spot. 0 < length spot.above.items) }
-    ensures leaves { Leaves run.old.run result run.new.run }
-    ensures age { Aged run.old run.new 0 }
+    ensures leaves { Leaves running.old.tx result running.new.tx }
+    ensures age { Aged running.old running.new 0 }
 {
-    let spot = walk(alloc, run, pieces)?;
+    let spot = walk(alloc, running, pieces)?;
     Ok(spot)
 }
 
 /// The file whose name a path is, where that may be taken away.
 fn named_file<D: Device>(
     alloc: Global,
-    run: &mut Running<D>,
+    running: &mut Running<D>,
     path: &Path,
 ) -> Result<Leaf, CoreFault>
-    requires age { age_of run.old < 2 ^ 63 - 2 ^ 39 }
+    requires age { age_of running.old < 2 ^ 63 - 2 ^ 39 }
     requires named { All IsNamed path.now.pieces }
-    ensures gives { Gives (λ leaf. leaf) result (unlink_in (seen run.old.run) (route_of path.now)) }
+    ensures gives { Gives (λ leaf. leaf) result (unlink_in (seen running.old.tx) (route_of path.now)) }
     ensures named { IfOk result (λ leaf. IsNamed leaf.name) }
     ensures small { IfOk result (λ leaf. leaf.size ≤ 1048576) }
-    ensures leaves { Leaves run.old.run result run.new.run }
-    ensures age { Aged run.old run.new 0 }
+    ensures leaves { Leaves running.old.tx result running.new.tx }
+    ensures age { Aged running.old running.new 0 }
 {
     let pieces = path.pieces.items();
     if ends_in_dots(pieces) {
@@ -161,8 +161,8 @@ fn named_file<D: Device>(
     if is_root(pieces) {
         return Err(CoreFault::No(Errno::EPERM));
     }
-    let spot = walk_to_name(alloc, run, pieces)?;
-    match found(alloc, run, spot.node)? {
+    let spot = walk_to_name(alloc, running, pieces)?;
+    match found(alloc, running, spot.node)? {
         None => Err(CoreFault::No(Errno::ENOENT)),
         Some((node, it)) => {
             if it.kind == 1 {
@@ -182,32 +182,32 @@ fn named_file<D: Device>(
 /// Whether a directory has a name in it.
 pub(crate) fn has_names<D: Device>(
     alloc: Global,
-    run: &mut Running<D>,
+    running: &mut Running<D>,
     node: u64,
 ) -> Result<bool, DeviceFault>
-    requires { age_of run.old < 2 ^ 63 - 2 ^ 39 }
-    ensures gives { IfOk result (λ some. some ≡ has_names (seen run.old.run) node) }
-    ensures same { OnOk result (run.new.run ≡ run.old.run) }
-    ensures err { IfErr result (λ fault. GetFault run.old.run fault run.new.run.machine) }
-    ensures age { Aged run.old run.new 0 }
+    requires { age_of running.old < 2 ^ 63 - 2 ^ 39 }
+    ensures gives { IfOk result (λ some. some ≡ has_names (seen running.old.tx) node) }
+    ensures same { OnOk result (running.new.tx ≡ running.old.tx) }
+    ensures err { IfErr result (λ fault. GetFault running.old.tx fault running.new.tx.machine) }
+    ensures age { Aged running.old running.new 0 }
 {
-    let empty = is_empty(alloc, run, node)?;
+    let empty = is_empty(alloc, running, node)?;
     Ok(!empty)
 }
 
 /// The directory whose name a path is, where that may be taken away.
 fn empty_directory<D: Device>(
     alloc: Global,
-    run: &mut Running<D>,
+    running: &mut Running<D>,
     path: &Path,
 ) -> Result<Leaf, CoreFault>
-    requires age { age_of run.old < 2 ^ 63 - 2 ^ 39 }
+    requires age { age_of running.old < 2 ^ 63 - 2 ^ 39 }
     requires named { All IsNamed path.now.pieces }
-    ensures gives { Gives (λ leaf. leaf) result (rmdir_in (seen run.old.run) (route_of path.now)) }
+    ensures gives { Gives (λ leaf. leaf) result (rmdir_in (seen running.old.tx) (route_of path.now)) }
     ensures named { IfOk result (λ leaf. IsNamed leaf.name) }
     ensures small { IfOk result (λ leaf. leaf.size ≤ 1048576) }
-    ensures leaves { Leaves run.old.run result run.new.run }
-    ensures age { Aged run.old run.new 0 }
+    ensures leaves { Leaves running.old.tx result running.new.tx }
+    ensures age { Aged running.old running.new 0 }
 {
     let pieces = path.pieces.items();
     if ends_in_dot(pieces) {
@@ -219,14 +219,14 @@ fn empty_directory<D: Device>(
     if is_root(pieces) {
         return Err(CoreFault::No(Errno::EBUSY));
     }
-    let spot = walk_to_name(alloc, run, pieces)?;
-    match found(alloc, run, spot.node)? {
+    let spot = walk_to_name(alloc, running, pieces)?;
+    match found(alloc, running, spot.node)? {
         None => Err(CoreFault::No(Errno::ENOENT)),
         Some((node, it)) => {
             if it.kind != 1 {
                 return Err(CoreFault::No(Errno::ENOTDIR));
             }
-            if has_names(alloc, run, node)? {
+            if has_names(alloc, running, node)? {
                 return Err(CoreFault::No(Errno::ENOTEMPTY));
             }
             Ok(leaf_at(spot, node, 0))
@@ -235,15 +235,19 @@ fn empty_directory<D: Device>(
 }
 
 /// Puts the object that says of a node that it has no name.
-fn put_orphan<D: Device>(alloc: Global, run: &mut Running<D>, node: u64) -> Result<(), DeviceFault>
-    requires { age_of run.old < 2 ^ 63 - 2 ^ 39 }
-    ensures ok { OnOk result (run.new.run ≡ put_in run.old.run (orphan_key node) orphan_value) }
-    ensures err { IfErr result (λ fault. PutFault run.old.run (orphan_key node) orphan_value fault run.new.run.machine) }
-    ensures age { Aged run.old run.new 0 }
+fn put_orphan<D: Device>(
+    alloc: Global,
+    running: &mut Running<D>,
+    node: u64,
+) -> Result<(), DeviceFault>
+    requires { age_of running.old < 2 ^ 63 - 2 ^ 39 }
+    ensures ok { OnOk result (running.new.tx ≡ put_in running.old.tx (orphan_key node) orphan_value) }
+    ensures err { IfErr result (λ fault. PutFault running.old.tx (orphan_key node) orphan_value fault running.new.tx.machine) }
+    ensures age { Aged running.old running.new 0 }
 {
     let key = orphan_key(alloc, node)?;
     let value = orphan_value(alloc)?;
-    run.set(alloc, &key, &value)?;
+    running.set(alloc, &key, &value)?;
     Ok(())
 }
 
@@ -259,71 +263,75 @@ pub(crate) fn chunks_lost(size: u64, open_now: bool) -> u64
 /// A node that lost its name gets an orphan object where it is open, else it goes.
 pub(crate) fn lose_name<D: Device>(
     alloc: Global,
-    run: &mut Running<D>,
+    running: &mut Running<D>,
     node: u64,
     size: u64,
     open_now: bool,
 ) -> Result<(), DeviceFault>
-    requires age { age_of run.old < 2 ^ 63 - 2 ^ 39 }
+    requires age { age_of running.old < 2 ^ 63 - 2 ^ 39 }
     requires size { size ≤ 1048576 }
-    ensures loses { OnOk result (Loses run.old.run node size open_now run.new.run) }
-    ensures err { IfErr result (λ fault. Fails run.old.run (1 + chunks_lost size open_now) fault run.new.run.machine) }
-    ensures age { Aged run.old run.new 0 }
+    ensures loses { OnOk result (Loses running.old.tx node size open_now running.new.tx) }
+    ensures err { IfErr result (λ fault. Fails running.old.tx (1 + chunks_lost size open_now) fault running.new.tx.machine) }
+    ensures age { Aged running.old running.new 0 }
 {
     if open_now {
-        return put_orphan(alloc, run, node);
+        return put_orphan(alloc, running, node);
     }
-    drop_node(alloc, run, node, size)
+    drop_node(alloc, running, node, size)
 }
 
 /// Takes an entry away, and its node goes or stays without a name.
 fn unname<D: Device>(
     alloc: Global,
-    run: &mut Running<D>,
+    running: &mut Running<D>,
     leaf: &Leaf,
     open_now: bool,
 ) -> Result<(), DeviceFault>
-    requires age { age_of run.old < 2 ^ 63 - 2 ^ 39 }
+    requires age { age_of running.old < 2 ^ 63 - 2 ^ 39 }
     requires named { IsNamed leaf.now.name }
     requires size { leaf.now.size ≤ 1048576 }
-    ensures unnames { OnOk result (Unnames run.old.run leaf.now open_now run.new.run) }
-    ensures err { IfErr result (λ fault. Fails run.old.run (2 + chunks_gone leaf.now open_now) fault run.new.run.machine) }
-    ensures age { Aged run.old run.new 0 }
+    ensures unnames { OnOk result (Unnames running.old.tx leaf.now open_now running.new.tx) }
+    ensures err { IfErr result (λ fault. Fails running.old.tx (2 + chunks_gone leaf.now open_now) fault running.new.tx.machine) }
+    ensures age { Aged running.old running.new 0 }
 {
-    remove(alloc, run, leaf.parent, leaf.name.bytes())?;
-    lose_name(alloc, run, leaf.node, leaf.size, open_now)
+    remove(alloc, running, leaf.parent, leaf.name.bytes())?;
+    lose_name(alloc, running, leaf.node, leaf.size, open_now)
 }
 
 /// The same, as one change.
 fn take_name<D: Device>(
     alloc: Global,
-    run: &mut Running<D>,
+    running: &mut Running<D>,
     leaf: &Leaf,
     open_now: bool,
 ) -> Result<(), DeviceFault>
-    requires age { age_of run.old < 2 ^ 63 - 2 ^ 39 }
+    requires age { age_of running.old < 2 ^ 63 - 2 ^ 39 }
     requires named { IsNamed leaf.now.name }
     requires size { leaf.now.size ≤ 1048576 }
-    ensures unlinks { OnOk result (Unlinks run.old.run leaf.now open_now run.new.run) }
-    ensures err { IfErr result (λ fault. UnlinkFault run.old.run leaf.now open_now fault run.new.run.machine) }
-    ensures age { Aged run.old run.new (2 ^ 16) }
+    ensures unlinks { OnOk result (Unlinks running.old.tx leaf.now open_now running.new.tx) }
+    ensures err { IfErr result (λ fault. UnlinkFault running.old.tx leaf.now open_now fault running.new.tx.machine) }
+    ensures age { Aged running.old running.new (2 ^ 16) }
 {
-    unname(alloc, run, leaf, open_now)?;
+    unname(alloc, running, leaf, open_now)?;
     let chunks = chunks_lost(leaf.size, open_now);
-    let next = run.head().next;
-    run.change(alloc, 4 + chunks as u32, next)?;
+    let next = running.head().next;
+    running.change(alloc, 4 + chunks as u32, next)?;
     Ok(())
 }
 
 /// The length of a node that is to go.
-fn size_to_go<D: Device>(alloc: Global, run: &mut Running<D>, node: u64) -> Result<u64, CoreFault>
-    requires { age_of run.old < 2 ^ 63 - 2 ^ 39 }
-    ensures gives { Gives (λ n. n) result (release_at (inode_in (seen run.old.run) node)) }
+fn size_to_go<D: Device>(
+    alloc: Global,
+    running: &mut Running<D>,
+    node: u64,
+) -> Result<u64, CoreFault>
+    requires { age_of running.old < 2 ^ 63 - 2 ^ 39 }
+    ensures gives { Gives (λ n. n) result (release_at (inode_in (seen running.old.tx) node)) }
     ensures small { IfOk result (λ n. n ≤ 1048576) }
-    ensures leaves { Leaves run.old.run result run.new.run }
-    ensures age { Aged run.old run.new 0 }
+    ensures leaves { Leaves running.old.tx result running.new.tx }
+    ensures age { Aged running.old running.new 0 }
 {
-    match inode(alloc, run, node)? {
+    match inode(alloc, running, node)? {
         None => Err(CoreFault::No(Errno::ENOENT)),
         Some(it) => {
             if it.length > GREATEST_LENGTH {
@@ -337,19 +345,19 @@ fn size_to_go<D: Device>(alloc: Global, run: &mut Running<D>, node: u64) -> Resu
 /// Removes a node without a name, as one change.
 fn remove_node<D: Device>(
     alloc: Global,
-    run: &mut Running<D>,
+    running: &mut Running<D>,
     node: u64,
     size: u64,
 ) -> Result<(), DeviceFault>
-    requires age { age_of run.old < 2 ^ 63 - 2 ^ 39 }
+    requires age { age_of running.old < 2 ^ 63 - 2 ^ 39 }
     requires size { size ≤ 1048576 }
-    ensures releases { OnOk result (Releases run.old.run node size run.new.run) }
-    ensures err { IfErr result (λ fault. ReleaseFault run.old.run node size fault run.new.run.machine) }
-    ensures age { Aged run.old run.new (2 ^ 16) }
+    ensures releases { OnOk result (Releases running.old.tx node size running.new.tx) }
+    ensures err { IfErr result (λ fault. ReleaseFault running.old.tx node size fault running.new.tx.machine) }
+    ensures age { Aged running.old running.new (2 ^ 16) }
 {
-    drop_node(alloc, run, node, size)?;
-    delete_orphan(alloc, run, node)?;
-    let next = run.head().next;
-    run.change(alloc, 4 + chunks_for(size) as u32, next)?;
+    drop_node(alloc, running, node, size)?;
+    delete_orphan(alloc, running, node)?;
+    let next = running.head().next;
+    running.change(alloc, 4 + chunks_for(size) as u32, next)?;
     Ok(())
 }

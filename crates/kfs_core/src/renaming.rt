@@ -3,9 +3,9 @@ ghost use Rattle.std.specs.Prelude.{◌≡◌, ◌==◌, ◌+◌, ◌<◌, ◌�
 ghost use Rattle.std.specs.List.{list_any};
 ghost use Rattle.std.specs.Option.{option_map};
 ghost use Rattle.kfs_objects.specs.Keys.{IsNamed};
-ghost use Rattle.kfs_tx.specs.Run.{age_of, Aged, seen};
+ghost use Rattle.kfs_tx.specs.Tx.{age_of, Aged, seen};
 ghost use Rattle.kfs_file.specs.Contents.{Fails};
-ghost use Rattle.kfs_core.specs.Core.{run_in};
+ghost use Rattle.kfs_core.specs.Core.{tx_in};
 ghost use Rattle.kfs_core.specs.Gives.{Gives, Leaves};
 ghost use Rattle.kfs_core.specs.Removing.{is_open_in};
 ghost use Rattle.kfs_core.specs.Renaming.{IsPlain, MoveFault, Moves, RenameDoes, Replaces, TellsReplaced, chunks_replaced, clear_in, is_same_spot, keys_replaced, move_at, needs_dir, onto_in, rename_in, replaced_node, with_moved};
@@ -50,14 +50,14 @@ impl<D: Device> Kfs<D> {
         requires age { age_of self.old.running < 2 ^ 63 - 2 ^ 39 }
         requires named { All IsNamed old.now.pieces }
         requires new_named { All IsNamed new.now.pieces }
-        ensures does { RenameDoes self.old (rename_in (seen (run_in self.old)) (route_of old.now) (route_of new.now)) (is_open_in is_open.now) result self.new }
-        ensures node { IfOk result (λ n. TellsReplaced (rename_in (seen (run_in self.old)) (route_of old.now) (route_of new.now)) n) }
+        ensures does { RenameDoes self.old (rename_in (seen (tx_in self.old)) (route_of old.now) (route_of new.now)) (is_open_in is_open.now) result self.new }
+        ensures node { IfOk result (λ n. TellsReplaced (rename_in (seen (tx_in self.old)) (route_of old.now) (route_of new.now)) n) }
         ensures age { Aged self.old.running self.new.running (2 ^ 16) }
     {
-        match planned(alloc, &mut self.run, old, new)? {
+        match planned(alloc, &mut self.running, old, new)? {
             None => Ok(None),
             Some(moving) => {
-                rename_entry(alloc, &mut self.run, &moving, is_open)?;
+                rename_entry(alloc, &mut self.running, &moving, is_open)?;
                 self.free_replaced(&moving.replaced, is_open);
                 Ok(replaced_node(&moving))
             }
@@ -144,22 +144,22 @@ fn move_at(
 /// The move, where what is there may be replaced.
 fn clear<D: Device>(
     alloc: Global,
-    run: &mut Running<D>,
+    running: &mut Running<D>,
     node: u64,
     is_dir: bool,
     p: Spot,
     q: Spot,
     there: Option<(u64, Inode)>,
 ) -> Result<Option<Move>, CoreFault>
-    requires age { age_of run.old < 2 ^ 63 - 2 ^ 39 }
+    requires age { age_of running.old < 2 ^ 63 - 2 ^ 39 }
     requires p { 0 < length p.above.items }
     requires q { 0 < length q.above.items }
     requires named { IsNamed p.name }
     requires new_named { IsNamed q.name }
-    ensures gives { Gives (λ m. m) result (clear_in (seen run.old.run) node is_dir (where_of p) (where_of q) (option_map (λ it. (it.0, it.1.kind, it.1.length)) there)) }
+    ensures gives { Gives (λ m. m) result (clear_in (seen running.old.tx) node is_dir (where_of p) (where_of q) (option_map (λ it. (it.0, it.1.kind, it.1.length)) there)) }
     ensures plain { IfOk result (λ m. IfSome m IsPlain) }
-    ensures leaves { Leaves run.old.run result run.new.run }
-    ensures age { Aged run.old run.new 0 }
+    ensures leaves { Leaves running.old.tx result running.new.tx }
+    ensures age { Aged running.old running.new 0 }
 {
     if is_above(&q.above, node) {
         return Err(CoreFault::No(Errno::EINVAL));
@@ -171,7 +171,7 @@ fn clear<D: Device>(
                 if !is_dir {
                     return Err(CoreFault::No(Errno::EISDIR));
                 }
-                if has_names(alloc, run, other)? {
+                if has_names(alloc, running, other)? {
                     return Err(CoreFault::No(Errno::ENOTEMPTY));
                 }
             } else if is_dir {
@@ -188,7 +188,7 @@ fn clear<D: Device>(
 /// The move of a node that was found.
 fn onto<D: Device>(
     alloc: Global,
-    run: &mut Running<D>,
+    running: &mut Running<D>,
     to: &Path,
     node: u64,
     is_dir: bool,
@@ -196,15 +196,15 @@ fn onto<D: Device>(
     q: Spot,
     there: Option<(u64, Inode)>,
 ) -> Result<Option<Move>, CoreFault>
-    requires age { age_of run.old < 2 ^ 63 - 2 ^ 39 }
+    requires age { age_of running.old < 2 ^ 63 - 2 ^ 39 }
     requires p { 0 < length p.above.items }
     requires q { 0 < length q.above.items }
     requires named { IsNamed p.name }
     requires new_named { IsNamed q.name }
-    ensures gives { Gives (λ m. m) result (onto_in (seen run.old.run) (route_of to.now) (where_of p) node is_dir (where_of q) (option_map (λ it. (it.0, it.1.kind, it.1.length)) there)) }
+    ensures gives { Gives (λ m. m) result (onto_in (seen running.old.tx) (route_of to.now) (where_of p) node is_dir (where_of q) (option_map (λ it. (it.0, it.1.kind, it.1.length)) there)) }
     ensures plain { IfOk result (λ m. IfSome m IsPlain) }
-    ensures leaves { Leaves run.old.run result run.new.run }
-    ensures age { Aged run.old run.new 0 }
+    ensures leaves { Leaves running.old.tx result running.new.tx }
+    ensures age { Aged running.old running.new 0 }
 {
     if needs_directory(is_dir, to.trailing, &there) {
         return Err(CoreFault::No(Errno::ENOTDIR));
@@ -212,7 +212,7 @@ fn onto<D: Device>(
     if is_same_spot(&p, &q) {
         return Ok(None);
     }
-    clear(alloc, run, node, is_dir, p, q, there)
+    clear(alloc, running, node, is_dir, p, q, there)
 }
 
 /// Whether a file moves to a path with a trailing slash that names no directory.
@@ -234,17 +234,17 @@ fn needs_directory(is_dir: bool, trailing: bool, there: &Option<(u64, Inode)>) -
 /// What moves, or nothing where both paths name one place.
 fn planned<D: Device>(
     alloc: Global,
-    run: &mut Running<D>,
+    running: &mut Running<D>,
     from: &Path,
     to: &Path,
 ) -> Result<Option<Move>, CoreFault>
-    requires age { age_of run.old < 2 ^ 63 - 2 ^ 39 }
+    requires age { age_of running.old < 2 ^ 63 - 2 ^ 39 }
     requires named { All IsNamed from.now.pieces }
     requires new_named { All IsNamed to.now.pieces }
-    ensures gives { Gives (λ m. m) result (rename_in (seen run.old.run) (route_of from.now) (route_of to.now)) }
+    ensures gives { Gives (λ m. m) result (rename_in (seen running.old.tx) (route_of from.now) (route_of to.now)) }
     ensures plain { IfOk result (λ m. IfSome m IsPlain) }
-    ensures leaves { Leaves run.old.run result run.new.run }
-    ensures age { Aged run.old run.new 0 }
+    ensures leaves { Leaves running.old.tx result running.new.tx }
+    ensures age { Aged running.old running.new 0 }
 {
     let old = from.pieces.items();
     let new = to.pieces.items();
@@ -260,8 +260,8 @@ fn planned<D: Device>(
     if is_root(new) {
         return Err(CoreFault::No(Errno::EBUSY));
     }
-    let p = walk_to_name(alloc, run, old)?;
-    match found(alloc, run, p.node)? {
+    let p = walk_to_name(alloc, running, old)?;
+    match found(alloc, running, p.node)? {
         None => Err(CoreFault::No(Errno::ENOENT)),
         Some((node, it)) => {
             let is_dir = it.kind == 1;
@@ -270,9 +270,9 @@ fn planned<D: Device>(
                     return Err(CoreFault::No(Errno::ENOTDIR));
                 }
             }
-            let q = walk_to_name(alloc, run, new)?;
-            let there = found(alloc, run, q.node)?;
-            onto(alloc, run, to, node, is_dir, p, q, there)
+            let q = walk_to_name(alloc, running, new)?;
+            let there = found(alloc, running, q.node)?;
+            onto(alloc, running, to, node, is_dir, p, q, there)
         }
     }
 }
@@ -280,23 +280,23 @@ fn planned<D: Device>(
 /// The node of an entry that is replaced goes, or stays without a name. Answers its chunks that go.
 fn replace<D: Device>(
     alloc: Global,
-    run: &mut Running<D>,
+    running: &mut Running<D>,
     replaced: &Option<Leaf>,
     is_open: &Names,
 ) -> Result<u64, DeviceFault>
-    requires age { age_of run.old < 2 ^ 63 - 2 ^ 39 }
+    requires age { age_of running.old < 2 ^ 63 - 2 ^ 39 }
     requires small { IfSome replaced.now (λ leaf. leaf.size ≤ 1048576) }
-    ensures replaces { OnOk result (Replaces run.old.run replaced.now (is_open_in is_open.now) run.new.run) }
+    ensures replaces { OnOk result (Replaces running.old.tx replaced.now (is_open_in is_open.now) running.new.tx) }
     ensures chunks { IfOk result (λ n. n ≡ chunks_replaced replaced.now (is_open_in is_open.now)) }
     ensures few { IfOk result (λ n. n ≤ 256) }
-    ensures err { IfErr result (λ fault. Fails run.old.run (1 + chunks_replaced replaced.now (is_open_in is_open.now)) fault run.new.run.machine) }
-    ensures age { Aged run.old run.new 0 }
+    ensures err { IfErr result (λ fault. Fails running.old.tx (1 + chunks_replaced replaced.now (is_open_in is_open.now)) fault running.new.tx.machine) }
+    ensures age { Aged running.old running.new 0 }
 {
     match replaced {
         None => Ok(0),
         Some(leaf) => {
             let open_now = is_open_in(is_open, leaf.node);
-            lose_name(alloc, run, leaf.node, leaf.size, open_now)?;
+            lose_name(alloc, running, leaf.node, leaf.size, open_now)?;
             Ok(chunks_lost(leaf.size, open_now))
         }
     }
@@ -305,36 +305,36 @@ fn replace<D: Device>(
 /// Moves an entry.
 fn move_entry<D: Device>(
     alloc: Global,
-    run: &mut Running<D>,
+    running: &mut Running<D>,
     moving: &Move,
 ) -> Result<(), DeviceFault>
-    requires age { age_of run.old < 2 ^ 63 - 2 ^ 39 }
+    requires age { age_of running.old < 2 ^ 63 - 2 ^ 39 }
     requires plain { IsPlain moving.now }
-    ensures ok { OnOk result (run.new.run ≡ with_moved run.old.run moving.now) }
-    ensures err { IfErr result (λ fault. Fails run.old.run 2 fault run.new.run.machine) }
-    ensures age { Aged run.old run.new 0 }
+    ensures ok { OnOk result (running.new.tx ≡ with_moved running.old.tx moving.now) }
+    ensures err { IfErr result (λ fault. Fails running.old.tx 2 fault running.new.tx.machine) }
+    ensures age { Aged running.old running.new 0 }
 {
-    remove(alloc, run, moving.parent, moving.name.bytes())?;
+    remove(alloc, running, moving.parent, moving.name.bytes())?;
     let name = moving.new_name.bytes();
-    add(alloc, run, moving.new_parent, name, moving.node)
+    add(alloc, running, moving.new_parent, name, moving.node)
 }
 
 /// The same over what is replaced, as one change.
 fn rename_entry<D: Device>(
     alloc: Global,
-    run: &mut Running<D>,
+    running: &mut Running<D>,
     moving: &Move,
     is_open: &Names,
 ) -> Result<(), DeviceFault>
-    requires age { age_of run.old < 2 ^ 63 - 2 ^ 39 }
+    requires age { age_of running.old < 2 ^ 63 - 2 ^ 39 }
     requires plain { IsPlain moving.now }
-    ensures moves { OnOk result (Moves run.old.run moving.now (is_open_in is_open.now) run.new.run) }
-    ensures err { IfErr result (λ fault. MoveFault run.old.run moving.now (is_open_in is_open.now) fault run.new.run.machine) }
-    ensures age { Aged run.old run.new (2 ^ 16) }
+    ensures moves { OnOk result (Moves running.old.tx moving.now (is_open_in is_open.now) running.new.tx) }
+    ensures err { IfErr result (λ fault. MoveFault running.old.tx moving.now (is_open_in is_open.now) fault running.new.tx.machine) }
+    ensures age { Aged running.old running.new (2 ^ 16) }
 {
-    let chunks = replace(alloc, run, &moving.replaced, is_open)?;
-    move_entry(alloc, run, moving)?;
-    let next = run.head().next;
-    run.change(alloc, 4 + chunks as u32, next)?;
+    let chunks = replace(alloc, running, &moving.replaced, is_open)?;
+    move_entry(alloc, running, moving)?;
+    let next = running.head().next;
+    running.change(alloc, 4 + chunks as u32, next)?;
     Ok(())
 }

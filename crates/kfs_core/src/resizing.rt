@@ -1,6 +1,6 @@
 // A file's new length.
 ghost use Rattle.std.specs.Prelude.{◌≡◌, ◌+◌, ◌<◌, ◌≤◌, ◌-◌, ◌^◌, IsTrue, OnOk, IfOk, IfErr};
-ghost use Rattle.kfs_tx.specs.Run.{age_of, Aged, seen};
+ghost use Rattle.kfs_tx.specs.Tx.{age_of, Aged, seen};
 ghost use Rattle.kfs_file.specs.Contents as contents;
 ghost use Rattle.kfs_core.specs.Gives.{Gives, Leaves};
 ghost use Rattle.kfs_core.specs.Resizing.{PutsLength, ResizeDoes, ResizeFault, Resizes, keys_cut, resize_in, resized_fits};
@@ -25,11 +25,11 @@ impl<D: Device> Kfs<D> {
         ensures age { Aged self.old.running self.new.running (2 ^ 17) }
     {
         let space = self.space();
-        let size = resizable(alloc, &mut self.run, &space, node, length)?;
+        let size = resizable(alloc, &mut self.running, &space, node, length)?;
         if size == length {
             return Ok(());
         }
-        resize(alloc, &mut self.run, node, size, length)?;
+        resize(alloc, &mut self.running, node, size, length)?;
         let old = chunks_for(size);
         let new = chunks_for(length);
         self.charge = (self.charge + new).saturating_sub(old);
@@ -55,22 +55,22 @@ fn resized_fits(space: &Space, old: u64, new: u64) -> bool
 /// The length of a file, where another may take its place.
 fn resizable<D: Device>(
     alloc: Global,
-    run: &mut Running<D>,
+    running: &mut Running<D>,
     space: &Space,
     node: u64,
     length: u64,
 ) -> Result<u64, CoreFault>
-    requires age { age_of run.old < 2 ^ 63 - 2 ^ 39 }
+    requires age { age_of running.old < 2 ^ 63 - 2 ^ 39 }
     requires charge { space.now.charge ≤ space.now.keys }
     requires chunks { space.now.chunks ≤ space.now.pages }
-    ensures gives { Gives (λ n. n) result (resize_in (seen run.old.run) space.now node length) }
+    ensures gives { Gives (λ n. n) result (resize_in (seen running.old.tx) space.now node length) }
     ensures small { IfOk result (λ n. n ≤ 1048576) }
     ensures short { OnOk result (length ≤ 1048576) }
     ensures fits { IfOk result (λ n. IsTrue (resized_fits space.now n length)) }
-    ensures leaves { Leaves run.old.run result run.new.run }
-    ensures age { Aged run.old run.new 0 }
+    ensures leaves { Leaves running.old.tx result running.new.tx }
+    ensures age { Aged running.old running.new 0 }
 {
-    let size = length_of(alloc, run, node)?;
+    let size = length_of(alloc, running, node)?;
     if length > GREATEST_LENGTH {
         return Err(CoreFault::No(Errno::EFBIG));
     }
@@ -96,20 +96,20 @@ fn keys_cut(old: u64, new: u64) -> u64
 /// Gives the chunks of a file of so many bytes another length.
 fn put_length<D: Device>(
     alloc: Global,
-    run: &mut Running<D>,
+    running: &mut Running<D>,
     node: u64,
     size: u64,
     length: u64,
 ) -> Result<(), DeviceFault>
-    requires age { age_of run.old < 2 ^ 63 - 2 ^ 39 }
+    requires age { age_of running.old < 2 ^ 63 - 2 ^ 39 }
     requires size { size ≤ 1048576 }
     requires length { length ≤ 1048576 }
-    ensures puts { OnOk result (PutsLength run.old.run node size length run.new.run) }
-    ensures err { IfErr result (λ fault. contents.Fails run.old.run (keys_cut size length) fault run.new.run.machine) }
-    ensures age { Aged run.old run.new (2 ^ 16) }
+    ensures puts { OnOk result (PutsLength running.old.tx node size length running.new.tx) }
+    ensures err { IfErr result (λ fault. contents.Fails running.old.tx (keys_cut size length) fault running.new.tx.machine) }
+    ensures age { Aged running.old running.new (2 ^ 16) }
 {
     if length < size {
-        return set_length(alloc, run, node, size, length);
+        return set_length(alloc, running, node, size, length);
     }
     Ok(())
 }
@@ -117,22 +117,22 @@ fn put_length<D: Device>(
 /// The same with the inode, as one change.
 fn resize<D: Device>(
     alloc: Global,
-    run: &mut Running<D>,
+    running: &mut Running<D>,
     node: u64,
     size: u64,
     length: u64,
 ) -> Result<(), DeviceFault>
-    requires age { age_of run.old < 2 ^ 63 - 2 ^ 39 }
+    requires age { age_of running.old < 2 ^ 63 - 2 ^ 39 }
     requires size { size ≤ 1048576 }
     requires length { length ≤ 1048576 }
-    ensures resizes { OnOk result (Resizes run.old.run node size length run.new.run) }
-    ensures err { IfErr result (λ fault. ResizeFault run.old.run node size length fault run.new.run.machine) }
-    ensures age { Aged run.old run.new (2 ^ 17) }
+    ensures resizes { OnOk result (Resizes running.old.tx node size length running.new.tx) }
+    ensures err { IfErr result (λ fault. ResizeFault running.old.tx node size length fault running.new.tx.machine) }
+    ensures age { Aged running.old running.new (2 ^ 17) }
 {
-    put_length(alloc, run, node, size, length)?;
-    put_inode(alloc, run, node, Inode { kind: 2, length })?;
+    put_length(alloc, running, node, size, length)?;
+    put_inode(alloc, running, node, Inode { kind: 2, length })?;
     let cut = keys_cut(size, length);
-    let next = run.head().next;
-    run.change(alloc, 2 + cut as u32, next)?;
+    let next = running.head().next;
+    running.change(alloc, 2 + cut as u32, next)?;
     Ok(())
 }

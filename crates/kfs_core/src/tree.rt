@@ -2,8 +2,8 @@
 ghost use Rattle.std.specs.Prelude.{◌≡◌, ◌+◌, ◌<◌, ◌≤◌, ◌-◌, ◌^◌, ◌++◌, [], ◌∷◌, map, reverse, OnOk, IfOk, IfErr};
 ghost use Rattle.std.specs.Option.{option_map};
 ghost use Rattle.kv_device.specs.Objects.{pair_of};
-ghost use Rattle.kfs_tx.specs.Run.{age_of, Aged, seen, GetFault};
-ghost use Rattle.kfs_core.specs.Core.{run_in, Stays};
+ghost use Rattle.kfs_tx.specs.Tx.{age_of, Aged, seen, GetFault};
+ghost use Rattle.kfs_core.specs.Core.{tx_in, Stays};
 ghost use Rattle.kfs_core.specs.Flat.{inode_in};
 ghost use Rattle.kfs_core.specs.Gives.{Leaves};
 ghost use Rattle.kfs_core.specs.Listing.{IsOfDevice, ListsAll, at_of, item_at, pairs_below, place_below, right_below};
@@ -29,13 +29,13 @@ impl<D: Device> Kfs<D> {
     /// directory in the order of their bytes.
     pub fn tree(&mut self, alloc: Global) -> Result<TreeList, CoreFault>
         requires { age_of self.old.running < 2 ^ 63 - 2 ^ 39 }
-        ensures lists { IfOk result (ListsAll (seen (run_in self.old))) }
-        ensures leaves { Leaves (run_in self.old) result (run_in self.new) }
+        ensures lists { IfOk result (ListsAll (seen (tx_in self.old))) }
+        ensures leaves { Leaves (tx_in self.old) result (tx_in self.new) }
         ensures err { IfErr result IsOfDevice }
         ensures rest { Stays self.old self.new }
         ensures age { Aged self.old.running self.new.running 0 }
     {
-        let list = list_all(alloc, &mut self.run)?;
+        let list = list_all(alloc, &mut self.running)?;
         Ok(list)
     }
 }
@@ -83,15 +83,15 @@ fn push_below(
 /// The entries of a directory.
 fn pairs_below<D: Device>(
     alloc: Global,
-    run: &mut Running<D>,
+    running: &mut Running<D>,
     node: u64,
     it: &Option<Inode>,
 ) -> Result<Pairs, DeviceFault>
-    requires { age_of run.old < 2 ^ 63 - 2 ^ 39 }
-    ensures gives { IfOk result (λ pairs. map pair_of pairs ≡ pairs_below (seen run.old.run) node (option_map (λ i. (i.kind, i.length)) it.now)) }
-    ensures same { OnOk result (run.new.run ≡ run.old.run) }
-    ensures err { IfErr result (λ fault. GetFault run.old.run fault run.new.run.machine) }
-    ensures age { Aged run.old run.new 0 }
+    requires { age_of running.old < 2 ^ 63 - 2 ^ 39 }
+    ensures gives { IfOk result (λ pairs. map pair_of pairs ≡ pairs_below (seen running.old.tx) node (option_map (λ i. (i.kind, i.length)) it.now)) }
+    ensures same { OnOk result (running.new.tx ≡ running.old.tx) }
+    ensures err { IfErr result (λ fault. GetFault running.old.tx fault running.new.tx.machine) }
+    ensures age { Aged running.old running.new 0 }
 {
     match it {
         None => Ok(Pairs::new(alloc)),
@@ -100,7 +100,7 @@ fn pairs_below<D: Device>(
                 return Ok(Pairs::new(alloc));
             }
             let prefix = entry_prefix(alloc, node)?;
-            let pairs = run.iterate(alloc, &prefix, &prefix, u32::MAX)?;
+            let pairs = running.iterate(alloc, &prefix, &prefix, u32::MAX)?;
             Ok(pairs)
         }
     }
@@ -136,19 +136,19 @@ fn item_at(path: Names, it: &Option<Inode>) -> TreeItem
 /// Tells one place. What lies right below is to be told next.
 fn visit<D: Device>(
     alloc: Global,
-    run: &mut Running<D>,
+    running: &mut Running<D>,
     next: Pending,
     todo: &mut Vec<Pending>,
 ) -> Result<TreeItem, DeviceFault>
-    requires { age_of run.old < 2 ^ 63 - 2 ^ 39 }
-    ensures told { IfOk result (λ item. item ≡ item_at next.path (inode_in (seen run.old.run) next.node)) }
-    ensures below { OnOk result (map at_of todo.new.items ≡ map at_of todo.old.items ++ reverse (right_below (seen run.old.run) (at_of next))) }
-    ensures same { OnOk result (run.new.run ≡ run.old.run) }
-    ensures err { IfErr result (λ fault. GetFault run.old.run fault run.new.run.machine) }
-    ensures age { Aged run.old run.new 0 }
+    requires { age_of running.old < 2 ^ 63 - 2 ^ 39 }
+    ensures told { IfOk result (λ item. item ≡ item_at next.path (inode_in (seen running.old.tx) next.node)) }
+    ensures below { OnOk result (map at_of todo.new.items ≡ map at_of todo.old.items ++ reverse (right_below (seen running.old.tx) (at_of next))) }
+    ensures same { OnOk result (running.new.tx ≡ running.old.tx) }
+    ensures err { IfErr result (λ fault. GetFault running.old.tx fault running.new.tx.machine) }
+    ensures age { Aged running.old running.new 0 }
 {
-    let it = inode(alloc, run, next.node)?;
-    let pairs = pairs_below(alloc, run, next.node, &it)?;
+    let it = inode(alloc, running, next.node)?;
+    let pairs = pairs_below(alloc, running, next.node, &it)?;
     push_below(alloc, todo, &next.path, pairs.as_slice())?;
     Ok(item_at(next.path, &it))
 }
@@ -157,12 +157,12 @@ fn visit<D: Device>(
 const MOST_PLACES: usize = usize::MAX;
 
 /// All places, from the root on.
-fn list_all<D: Device>(alloc: Global, run: &mut Running<D>) -> Result<TreeList, DeviceFault>
-    requires { age_of run.old < 2 ^ 63 - 2 ^ 39 }
-    ensures lists { IfOk result (ListsAll (seen run.old.run)) }
-    ensures same { OnOk result (run.new.run ≡ run.old.run) }
-    ensures err { IfErr result (λ fault. GetFault run.old.run fault run.new.run.machine) }
-    ensures age { Aged run.old run.new 0 }
+fn list_all<D: Device>(alloc: Global, running: &mut Running<D>) -> Result<TreeList, DeviceFault>
+    requires { age_of running.old < 2 ^ 63 - 2 ^ 39 }
+    ensures lists { IfOk result (ListsAll (seen running.old.tx)) }
+    ensures same { OnOk result (running.new.tx ≡ running.old.tx) }
+    ensures err { IfErr result (λ fault. GetFault running.old.tx fault running.new.tx.machine) }
+    ensures age { Aged running.old running.new 0 }
 {
     let mut list = TreeList::new(alloc);
     let mut todo = Vec::new(alloc);
@@ -174,7 +174,7 @@ fn list_all<D: Device>(alloc: Global, run: &mut Running<D>) -> Result<TreeList, 
         let Some(next) = todo.pop() else {
             return Ok(list);
         };
-        list.push(visit(alloc, run, next, &mut todo)?)?;
+        list.push(visit(alloc, running, next, &mut todo)?)?;
     }
     unreachable!()
 }

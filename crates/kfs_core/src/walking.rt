@@ -2,7 +2,7 @@
 ghost use Rattle.std.specs.Prelude.{◌≡◌, ◌<◌, ◌≤◌, ◌-◌, ◌^◌, ℕ, List, [], All, length, IfOk, OnOk, IfErr, Ok};
 ghost use Rattle.std.specs.Option.{option_map};
 ghost use Rattle.kfs_objects.specs.Keys.{IsNamed};
-ghost use Rattle.kfs_tx.specs.Run.{age_of, Aged, seen, GetFault};
+ghost use Rattle.kfs_tx.specs.Tx.{age_of, Aged, seen, GetFault};
 ghost use Rattle.kfs_core.specs.Gives.{Gives, Leaves};
 ghost use Rattle.kfs_core.specs.Flat.{inode_in, enter_at, enter_in, further_in, walk_in, found_in, at_root};
 
@@ -39,17 +39,17 @@ pub fn parent(spot: &Spot) -> u64
 /// The kind and the length of a node.
 pub fn inode<D: Device>(
     alloc: Global,
-    run: &mut Running<D>,
+    running: &mut Running<D>,
     node: u64,
 ) -> Result<Option<Inode>, DeviceFault>
-    requires { age_of run.old < 2 ^ 63 - 2 ^ 39 }
-    ensures gives { IfOk result (λ i. option_map (λ i. (i.kind, i.length)) i ≡ inode_in (seen run.old.run) node) }
-    ensures same { OnOk result (run.new.run ≡ run.old.run) }
-    ensures err { IfErr result (λ fault. GetFault run.old.run fault run.new.run.machine) }
-    ensures age { Aged run.old run.new 0 }
+    requires { age_of running.old < 2 ^ 63 - 2 ^ 39 }
+    ensures gives { IfOk result (λ i. option_map (λ i. (i.kind, i.length)) i ≡ inode_in (seen running.old.tx) node) }
+    ensures same { OnOk result (running.new.tx ≡ running.old.tx) }
+    ensures err { IfErr result (λ fault. GetFault running.old.tx fault running.new.tx.machine) }
+    ensures age { Aged running.old running.new 0 }
 {
     let key = inode_key(alloc, node)?;
-    match run.get(alloc, &key)? {
+    match running.get(alloc, &key)? {
         None => Ok(None),
         Some(value) => Ok(Inode::read(&value)),
     }
@@ -58,18 +58,18 @@ pub fn inode<D: Device>(
 /// The number of a node in which a piece may be looked for.
 fn enter<D: Device>(
     alloc: Global,
-    run: &mut Running<D>,
+    running: &mut Running<D>,
     node: Option<u64>,
 ) -> Result<u64, CoreFault>
-    requires { age_of run.old < 2 ^ 63 - 2 ^ 39 }
-    ensures gives { Gives (λ n. n) result (enter_in (seen run.old.run) node) }
-    ensures leaves { Leaves run.old.run result run.new.run }
-    ensures age { Aged run.old run.new 0 }
+    requires { age_of running.old < 2 ^ 63 - 2 ^ 39 }
+    ensures gives { Gives (λ n. n) result (enter_in (seen running.old.tx) node) }
+    ensures leaves { Leaves running.old.tx result running.new.tx }
+    ensures age { Aged running.old running.new 0 }
 {
     let Some(n) = node else {
         return Err(CoreFault::No(Errno::ENOENT));
     };
-    match inode(alloc, run, n)? {
+    match inode(alloc, running, n)? {
         None => Err(CoreFault::No(Errno::ENOENT)),
         Some(it) => {
             if it.kind == 1 {
@@ -95,17 +95,17 @@ ghost use Rattle.kfs_core.specs.Flat.{up_from};
 /// Goes one piece further.
 fn go_on<D: Device>(
     alloc: Global,
-    run: &mut Running<D>,
+    running: &mut Running<D>,
     spot: &mut Spot,
     directory: u64,
     piece: &Text,
 ) -> Result<(), DeviceFault>
-    requires age { age_of run.old < 2 ^ 63 - 2 ^ 39 }
+    requires age { age_of running.old < 2 ^ 63 - 2 ^ 39 }
     requires named { IsNamed piece.now }
-    ensures gives { OnOk result (where_of spot.new ≡ further_in (seen run.old.run) (where_of spot.old) directory piece.now) }
-    ensures same { OnOk result (run.new.run ≡ run.old.run) }
-    ensures err { IfErr result (λ fault. GetFault run.old.run fault run.new.run.machine) }
-    ensures age { Aged run.old run.new 0 }
+    ensures gives { OnOk result (where_of spot.new ≡ further_in (seen running.old.tx) (where_of spot.old) directory piece.now) }
+    ensures same { OnOk result (running.new.tx ≡ running.old.tx) }
+    ensures err { IfErr result (λ fault. GetFault running.old.tx fault running.new.tx.machine) }
+    ensures age { Aged running.old running.new 0 }
 {
     if piece.bytes() == b".".as_slice() {
         return Ok(());
@@ -116,7 +116,7 @@ fn go_on<D: Device>(
     }
     spot.above.push(directory)?;
     spot.name = piece.copy(alloc)?;
-    spot.node = find(alloc, run, directory, piece.bytes())?;
+    spot.node = find(alloc, running, directory, piece.bytes())?;
     Ok(())
 }
 
@@ -124,14 +124,14 @@ fn go_on<D: Device>(
 /// before it names nothing or no directory.
 pub fn walk<D: Device>(
     alloc: Global,
-    run: &mut Running<D>,
+    running: &mut Running<D>,
     pieces: &[Text],
 ) -> Result<Spot, CoreFault>
-    requires age { age_of run.old < 2 ^ 63 - 2 ^ 39 }
+    requires age { age_of running.old < 2 ^ 63 - 2 ^ 39 }
     requires named { All IsNamed pieces.now }
-    ensures gives { Gives where_of result (walk_in (seen run.old.run) at_root pieces.now) }
-    ensures leaves { Leaves run.old.run result run.new.run }
-    ensures age { Aged run.old run.new 0 }
+    ensures gives { Gives where_of result (walk_in (seen running.old.tx) at_root pieces.now) }
+    ensures leaves { Leaves running.old.tx result running.new.tx }
+    ensures age { Aged running.old running.new 0 }
 {
     let mut spot = Spot {
         above: Vec::new(alloc),
@@ -139,8 +139,8 @@ pub fn walk<D: Device>(
         name: Text::new(alloc, &[])?,
     };
     for piece in pieces {
-        let directory = enter(alloc, run, spot.node)?;
-        go_on(alloc, run, &mut spot, directory, piece)?;
+        let directory = enter(alloc, running, spot.node)?;
+        go_on(alloc, running, &mut spot, directory, piece)?;
     }
     Ok(spot)
 }
@@ -148,19 +148,19 @@ pub fn walk<D: Device>(
 /// What is at a node: its number and its inode.
 pub fn found<D: Device>(
     alloc: Global,
-    run: &mut Running<D>,
+    running: &mut Running<D>,
     node: Option<u64>,
 ) -> Result<Option<(u64, Inode)>, DeviceFault>
-    requires { age_of run.old < 2 ^ 63 - 2 ^ 39 }
-    ensures gives { IfOk result (λ it. option_map (λ it. (it.0, it.1.kind, it.1.length)) it ≡ found_in (seen run.old.run) node) }
-    ensures same { OnOk result (run.new.run ≡ run.old.run) }
-    ensures err { IfErr result (λ fault. GetFault run.old.run fault run.new.run.machine) }
-    ensures age { Aged run.old run.new 0 }
+    requires { age_of running.old < 2 ^ 63 - 2 ^ 39 }
+    ensures gives { IfOk result (λ it. option_map (λ it. (it.0, it.1.kind, it.1.length)) it ≡ found_in (seen running.old.tx) node) }
+    ensures same { OnOk result (running.new.tx ≡ running.old.tx) }
+    ensures err { IfErr result (λ fault. GetFault running.old.tx fault running.new.tx.machine) }
+    ensures age { Aged running.old running.new 0 }
 {
     let Some(n) = node else {
         return Ok(None);
     };
-    match inode(alloc, run, n)? {
+    match inode(alloc, running, n)? {
         None => Ok(None),
         Some(it) => Ok(Some((n, it))),
     }

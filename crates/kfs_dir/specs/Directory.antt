@@ -9,7 +9,7 @@ use Rattle.kv_device.specs.Machine.{Machine}
 use Rattle.kv_device.specs.Objects.{Objects, pairs_from}
 use Rattle.kfs_objects.specs.Keys.{entry_key}
 use Rattle.kfs_objects.specs.Records.{read_entry}
-use Rattle.kfs_tx.specs.Run.{Run, Caused}
+use Rattle.kfs_tx.specs.Tx.{Tx, Caused}
 
 -- the node under a name
 abbrev pub node_under : Objects → ℕ → List ℕ → Option ℕ
@@ -20,5 +20,5 @@ abbrev pub names_under : Objects → ℕ → List (List ℕ)
 names_under m parent = map (λ e. drop 9 e.0) (pairs_from m (entry_key parent []) (entry_key parent []))
 
 -- want of memory before the device was asked, or what the device answered; and its cause
-abbrev pub TakenFault : Run → List ℕ → DeviceFault → Machine → Type 0
-TakenFault r key fault new = (((fault ≡ Memory) × (new ≡ r.machine)) ⊎ DeleteFault r.machine r.tx key fault new) × Caused r.machine fault new
+abbrev pub TakenFault : Tx → List ℕ → DeviceFault → Machine → Type 0
+TakenFault r key fault new = (((fault ≡ Memory) × (new ≡ r.machine)) ⊎ DeleteFault r.machine r.id key fault new) × Caused r.machine fault new

@@ -1,7 +1,7 @@
 ghost use Rattle.std.specs.Prelude.{◌≡◌, ◌==◌, ◌<◌, ◌-◌, ◌^◌, true, drop, length, map, take, IfOk, OnOk, IfErr};
 ghost use Rattle.kv_device.specs.Objects.{pair_of};
 ghost use Rattle.kfs_objects.specs.Keys.{IsNamed};
-ghost use Rattle.kfs_tx.specs.Run.{Aged, GetFault, age_of, seen};
+ghost use Rattle.kfs_tx.specs.Tx.{Aged, GetFault, age_of, seen};
 ghost use Rattle.kfs_dir.specs.Directory.{node_under, names_under};
 
 use kfs_objects::{EntryRecord, entry_key, entry_prefix};
@@ -13,20 +13,20 @@ use std::alloc::Global;
 /// The node under a name of 1 to 255 bytes, if there is one.
 pub fn find<D: Device>(
     alloc: Global,
-    run: &mut Running<D>,
+    running: &mut Running<D>,
     parent: u64,
     name: &[u8],
 ) -> Result<Option<u64>, DeviceFault>
-    requires age { age_of run.old < 2 ^ 63 - 2 ^ 39 }
+    requires age { age_of running.old < 2 ^ 63 - 2 ^ 39 }
     requires named { IsNamed name.now }
-    ensures found { IfOk result (λ node. node ≡ node_under (seen run.old.run) parent name.now) }
-    ensures same { OnOk result (run.new.run ≡ run.old.run) }
-    ensures up { OnOk result (run.old.run.machine.up ≡ true) }
-    ensures err { IfErr result (λ fault. GetFault run.old.run fault run.new.run.machine) }
-    ensures age { Aged run.old run.new 0 }
+    ensures found { IfOk result (λ node. node ≡ node_under (seen running.old.tx) parent name.now) }
+    ensures same { OnOk result (running.new.tx ≡ running.old.tx) }
+    ensures up { OnOk result (running.old.tx.machine.up ≡ true) }
+    ensures err { IfErr result (λ fault. GetFault running.old.tx fault running.new.tx.machine) }
+    ensures age { Aged running.old running.new 0 }
 {
     let key = entry_key(alloc, parent, name)?;
-    match run.get(alloc, &key)? {
+    match running.get(alloc, &key)? {
         None => Ok(None),
         Some(value) => match EntryRecord::read(&value) {
             None => Ok(None),
@@ -58,18 +58,18 @@ fn names_of(alloc: Global, pairs: &[Pair]) -> Result<Names, Memory>
 /// device gives them.
 pub fn list<D: Device>(
     alloc: Global,
-    run: &mut Running<D>,
+    running: &mut Running<D>,
     parent: u64,
 ) -> Result<Names, DeviceFault>
-    requires age { age_of run.old < 2 ^ 63 - 2 ^ 39 }
-    ensures names { IfOk result (λ names. names ≡ take (2 ^ 32 - 1) (names_under (seen run.old.run) parent)) }
-    ensures same { OnOk result (run.new.run ≡ run.old.run) }
-    ensures up { OnOk result (run.old.run.machine.up ≡ true) }
-    ensures err { IfErr result (λ fault. GetFault run.old.run fault run.new.run.machine) }
-    ensures age { Aged run.old run.new 0 }
+    requires age { age_of running.old < 2 ^ 63 - 2 ^ 39 }
+    ensures names { IfOk result (λ names. names ≡ take (2 ^ 32 - 1) (names_under (seen running.old.tx) parent)) }
+    ensures same { OnOk result (running.new.tx ≡ running.old.tx) }
+    ensures up { OnOk result (running.old.tx.machine.up ≡ true) }
+    ensures err { IfErr result (λ fault. GetFault running.old.tx fault running.new.tx.machine) }
+    ensures age { Aged running.old running.new 0 }
 {
     let prefix = entry_prefix(alloc, parent)?;
-    let pairs = run.iterate(alloc, &prefix, &prefix, u32::MAX)?;
+    let pairs = running.iterate(alloc, &prefix, &prefix, u32::MAX)?;
     let names = names_of(alloc, pairs.as_slice())?;
     Ok(names)
 }
@@ -77,17 +77,17 @@ pub fn list<D: Device>(
 /// Whether a directory has no names.
 pub fn is_empty<D: Device>(
     alloc: Global,
-    run: &mut Running<D>,
+    running: &mut Running<D>,
     parent: u64,
 ) -> Result<bool, DeviceFault>
-    requires age { age_of run.old < 2 ^ 63 - 2 ^ 39 }
-    ensures empty { IfOk result (λ empty. empty ≡ (length (names_under (seen run.old.run) parent) == 0)) }
-    ensures same { OnOk result (run.new.run ≡ run.old.run) }
-    ensures up { OnOk result (run.old.run.machine.up ≡ true) }
-    ensures err { IfErr result (λ fault. GetFault run.old.run fault run.new.run.machine) }
-    ensures age { Aged run.old run.new 0 }
+    requires age { age_of running.old < 2 ^ 63 - 2 ^ 39 }
+    ensures empty { IfOk result (λ empty. empty ≡ (length (names_under (seen running.old.tx) parent) == 0)) }
+    ensures same { OnOk result (running.new.tx ≡ running.old.tx) }
+    ensures up { OnOk result (running.old.tx.machine.up ≡ true) }
+    ensures err { IfErr result (λ fault. GetFault running.old.tx fault running.new.tx.machine) }
+    ensures age { Aged running.old running.new 0 }
 {
     let prefix = entry_prefix(alloc, parent)?;
-    let pairs = run.iterate(alloc, &prefix, &prefix, 1)?;
+    let pairs = running.iterate(alloc, &prefix, &prefix, 1)?;
     Ok(pairs.len() == 0)
 }

@@ -4,7 +4,7 @@ use Rattle.kv_device.specs.declared.fault.DeviceFault.{DeviceFault}
 use Rattle.kv_device.specs.declared.fault.DeviceFault.TheVariants.{NoTx, Busy, TxFull, Full, BadSize, Off, Failed, Memory}
 use Rattle.kv_device.specs.Machine.{Machine, Transactions}
 use Rattle.kfs_objects.specs.Keys.{be64, be32, chunk_key}
-use Rattle.kfs_tx.specs.Run.{Run, IsReady, changed_keys, Caused, CausedAlone, Fallen, HasCause}
+use Rattle.kfs_tx.specs.Tx.{Tx, IsReady, changed_keys, Caused, CausedAlone, Fallen, HasCause}
 use Rattle.kfs_tx.proofs.Falling.{get_falls, put_falls}
 use Rattle.kfs_file.specs.Contents.{Fails, PieceFault, CutFault, ChangesAtMost, pending_of}
 
@@ -56,29 +56,29 @@ unfolding be64 be32
 small_key value node chunk = small (nat_lt 128 (length value))
 
 -- a fault in the middle
-pub fails_between : (old mid : Run) (node chunk start keys : ℕ) (given : List ℕ) (fault : DeviceFault) (new : Machine) → mid ≡ pending_of mid old → (IsReady old → IsReady mid) → (IsReady old → changed_keys mid + 1 ≤ changed_keys old + keys)
+pub fails_between : (old mid : Tx) (node chunk start keys : ℕ) (given : List ℕ) (fault : DeviceFault) (new : Machine) → mid ≡ pending_of mid old → (IsReady old → IsReady mid) → (IsReady old → changed_keys mid + 1 ≤ changed_keys old + keys)
     → PieceFault mid node chunk start given fault new → Fails old keys fault new
 fails_between old mid node chunk start keys given fault new same ready few h = record {
-  cause = cause_before old.machine mid.machine.pending fault new (subst (λ (r : Run). Caused r.machine fault new) same (elim h [ inl get ↦ caused_alone mid.machine fault new get.1 | inr put ↦ put.1 ]));
-  fallen = λ is_ready room. fallen_before old.machine mid.machine.pending fault new (subst (λ (r : Run). Fallen r.machine fault r.machine.stable new) same (elim h [
+  cause = cause_before old.machine mid.machine.pending fault new (subst (λ (r : Tx). Caused r.machine fault new) same (elim h [ inl get ↦ caused_alone mid.machine fault new get.1 | inr put ↦ put.1 ]));
+  fallen = λ is_ready room. fallen_before old.machine mid.machine.pending fault new (subst (λ (r : Tx). Fallen r.machine fault r.machine.stable new) same (elim h [
     | inl get ↦ get_falls mid fault new (ready is_ready) get
     | inr put ↦ let less = few is_ready in put_falls mid (chunk_key node chunk) _ fault new (ready is_ready) (omega arith) (small_key _ node chunk) put
   ]));
 }
 
 -- with more keys to spare
-pub fails_weaker : (r : Run) (k j : ℕ) (fault : DeviceFault) (new : Machine) → k ≤ j → Fails r k fault new → Fails r j fault new
+pub fails_weaker : (r : Tx) (k j : ℕ) (fault : DeviceFault) (new : Machine) → k ≤ j → Fails r k fault new → Fails r j fault new
 fails_weaker r k j fault new le h = record { cause = h.cause; fallen = λ ready room. h.fallen ready (omega arith) }
 
 -- a fault in what follows
-pub fails_after : (old mid : Run) (j k all : ℕ) (fault : DeviceFault) (new : Machine) → mid ≡ pending_of mid old → (IsReady old → IsReady mid) → ChangesAtMost old j mid → j + k ≤ all → Fails mid k fault new → Fails old all fault new
+pub fails_after : (old mid : Tx) (j k all : ℕ) (fault : DeviceFault) (new : Machine) → mid ≡ pending_of mid old → (IsReady old → IsReady mid) → ChangesAtMost old j mid → j + k ≤ all → Fails mid k fault new → Fails old all fault new
 fails_after old mid j k all fault new same ready few le h = record {
-  cause = cause_before old.machine mid.machine.pending fault new (subst (λ (r : Run). Caused r.machine fault new) same h.cause);
-  fallen = λ is_ready room. fallen_before old.machine mid.machine.pending fault new (subst (λ (r : Run). Fallen r.machine fault r.machine.stable new) same (let so_far = few is_ready in h.fallen (ready is_ready) (omega arith)));
+  cause = cause_before old.machine mid.machine.pending fault new (subst (λ (r : Tx). Caused r.machine fault new) same h.cause);
+  fallen = λ is_ready room. fallen_before old.machine mid.machine.pending fault new (subst (λ (r : Tx). Fallen r.machine fault r.machine.stable new) same (let so_far = few is_ready in h.fallen (ready is_ready) (omega arith)));
 }
 
 -- a fault where an object is cut
-pub cut_fails : (r : Run) (node chunk : ℕ) (count : ℕ) (fault : DeviceFault) (new : Machine) → CutFault r node chunk count fault new → Fails r 1 fault new
+pub cut_fails : (r : Tx) (node chunk : ℕ) (count : ℕ) (fault : DeviceFault) (new : Machine) → CutFault r node chunk count fault new → Fails r 1 fault new
 cut_fails r node chunk count fault new h = record {
   cause = elim h [ inl get ↦ caused_alone r.machine fault new get.1 | inr put ↦ put.1 ];
   fallen = λ ready room. elim h [

@@ -8,7 +8,7 @@ use Rattle.kfs_model.specs.Tree.{written}
 use Rattle.kfs_shows.specs.Shows.{IsPiece}
 use Rattle.kfs_shows.proofs.Lookups.{key_put, key_other, decide_number}
 use Rattle.kfs_shows.proofs.KeysApart.{same_chunk}
-use Rattle.kfs_tx.specs.Run.{Run, seen, put_in}
+use Rattle.kfs_tx.specs.Tx.{Tx, seen, put_in}
 use Rattle.kfs_tx.proofs.Seeing.{ready_put, seen_put}
 use Rattle.kfs_file.specs.Contents.{HoldsFile, WritesFile, piece_in, rewritten, with_piece}
 use Rattle.kfs_file.proofs.Written.{nat_split, length_written, written_before, written_within, written_after, written_more}
@@ -86,7 +86,7 @@ nothing_written o b p k piece =
     }
 
 -- before the first piece is written
-pub writes_nothing : (r : Run) (node p : ℕ) → WritesFile r node p [] r
+pub writes_nothing : (r : Tx) (node p : ℕ) → WritesFile r node p [] r
 writes_nothing r node p = record {
   ready = λ h. h;
   holds = λ bytes ready lt fits held. record { pieces = λ k lk. nothing_written (objects.get (seen r) (chunk_key node k)) bytes p k (held.pieces k lk) };
@@ -95,7 +95,7 @@ writes_nothing r node p = record {
 }
 
 -- one piece more
-pub writes_more : (old mid new : Run) (node p c s : ℕ) (xs ys : List ℕ) → WritesFile old node p xs mid → new ≡ with_piece mid node c s ys → c < 2 ^ 32 → 4096 * c + s ≡ p + length xs → s + length ys ≤ 4096 → 0 < length ys → p + length (xs ++ ys) ≡ p + length xs + length ys
+pub writes_more : (old mid new : Tx) (node p c s : ℕ) (xs ys : List ℕ) → WritesFile old node p xs mid → new ≡ with_piece mid node c s ys → c < 2 ^ 32 → 4096 * c + s ≡ p + length xs → s + length ys ≤ 4096 → 0 < length ys → p + length (xs ++ ys) ≡ p + length xs + length ys
     → WritesFile old node p (xs ++ ys) new
 writes_more old mid new node p c s xs ys before is low place fits some long =
     let key = chunk_key node c in
@@ -119,7 +119,7 @@ writes_more old mid new node p c s xs ys before is low place fits some long =
           (subst (λ m. HoldsFile m node (written whole (4096 * c + s) ys)) (sym (seen_put mid key value (before.ready ready)))
           (record { pieces = λ k lk. at k (was.pieces k lk) lk }));
       others = λ q ready d. ap (λ m. objects.get m q) (seen_put mid key value (before.ready ready)) ∙ key_other (seen mid) key value q (d c low) ∙ before.others q ready d;
-      same = ap (λ (r : Run). record r { machine = record r.machine { pending = (put_in mid key value).machine.pending } }) before.same;
+      same = ap (λ (r : Tx). record r { machine = record r.machine { pending = (put_in mid key value).machine.pending } }) before.same;
     })
 
 pub take_both : (n k : ℕ) (xs : List ℕ) → n ≤ length xs → take (n + k) xs ≡ take n xs ++ take k (drop n xs)
@@ -131,7 +131,7 @@ pub rest_length : (n : ℕ) (xs : List ℕ) → length (take (length xs - n) (dr
 rest_length n xs = let back = length-drop n xs in ap length (take_all (length xs - n) (drop n xs) (omega arith)) ∙ back
 
 -- the same as the loop has it
-pub writes_on : (old mid new : Run) (node p done count : ℕ) (bytes : List ℕ) → WritesFile old node p (take done bytes) mid → new ≡ with_piece mid node ((p + done) / 4096) ((p + done) % 4096) (take count (take (length bytes - done) (drop done bytes)))
+pub writes_on : (old mid new : Tx) (node p done count : ℕ) (bytes : List ℕ) → WritesFile old node p (take done bytes) mid → new ≡ with_piece mid node ((p + done) / 4096) ((p + done) % 4096) (take count (take (length bytes - done) (drop done bytes)))
     → p + length bytes ≤ 2 ^ 20 → done < length bytes → count ≡ min (4096 - (p + done) % 4096) (length (take (length bytes - done) (drop done bytes))) → WritesFile old node p (take (done + count) bytes) new
 writes_on old mid new node p done count bytes before is short lt least =
     let front : length (take done bytes) ≡ done = length-take-le done bytes (omega arith) in

@@ -9,7 +9,7 @@ use Rattle.kfs_model.specs.Tree.{padded, resized}
 use Rattle.kfs_shows.specs.Shows.{IsPiece}
 use Rattle.kfs_shows.proofs.Lookups.{key_put, key_other, decide_number}
 use Rattle.kfs_shows.proofs.KeysApart.{same_chunk}
-use Rattle.kfs_tx.specs.Run.{Run, IsReady, changed_keys, seen, put_in}
+use Rattle.kfs_tx.specs.Tx.{Tx, IsReady, changed_keys, seen, put_in}
 use Rattle.kfs_tx.proofs.Seeing.{ready_put, seen_put, keys_put}
 use Rattle.kfs_file.specs.Contents.{ResizesFile, CutsFile, RemovesChunks, piece_in, with_cut}
 use Rattle.kfs_file.proofs.Written.{nat_split, length_padded, padded_at}
@@ -67,7 +67,7 @@ piece_absent : (o : Option (List ℕ)) (b : List ℕ) (c : ℕ) → IsPiece o b 
 piece_absent None b c piece le = refl
 piece_absent (Some p) b c piece le = let w = piece.within in let x = w.0 in let y = w.2 in absurd (omega arith)
 
-pub resizes_longer : (r : Run) (node size n : ℕ) → size ≤ n → ResizesFile r node size n r
+pub resizes_longer : (r : Tx) (node size n : ℕ) → size ≤ n → ResizesFile r node size n r
 resizes_longer r node size n le = record {
   ready = λ h. h;
   holds = λ b ready lt long held. record { pieces = λ c lc. piece_longer (objects.get (seen r) (chunk_key node c)) b c n (held.pieces c lc) (omega arith) };
@@ -76,7 +76,7 @@ resizes_longer r node size n le = record {
 }
 
 -- where the new length is a chunk's end nothing is cut
-pub cuts_nothing : (r : Run) (node n : ℕ) → n % 4096 ≡ 0 → CutsFile r node n r
+pub cuts_nothing : (r : Tx) (node n : ℕ) → n % 4096 ≡ 0 → CutsFile r node n r
 cuts_nothing r node n even = record {
   ready = λ h. h;
   pieces = λ b c ready lt lc less piece. piece_stays (objects.get (seen r) (chunk_key node c)) b c n 4096 piece (short_piece _ b c piece) (omega arith) (inr refl);
@@ -84,7 +84,7 @@ cuts_nothing r node n even = record {
   same = refl;
 }
 
-pub cuts_piece : (r new : Run) (node n : ℕ) → n < 2 ^ 32 → (n % 4096 ≡ 0 → ⊥) → new ≡ with_cut r node (n / 4096) (n % 4096) → CutsFile r node n new
+pub cuts_piece : (r new : Tx) (node n : ℕ) → n < 2 ^ 32 → (n % 4096 ≡ 0 → ⊥) → new ≡ with_cut r node (n / 4096) (n % 4096) → CutsFile r node n new
 cuts_piece r new node n low odd is = subst (CutsFile r node n) (sym is) (by (nat_lt k (length piece)) refl)
   where
     c0 : ℕ
@@ -126,7 +126,7 @@ cuts_piece r new node n low odd is = subst (CutsFile r node n) (sym is) (by (nat
           same = refl;
         }
 
-pub resizes_shorter : (old mid new : Run) (node size n : ℕ) → n ≤ size → size ≤ 2 ^ 20 → CutsFile old node n mid → RemovesChunks mid node ((n + 4095) / 4096) ((size + 4095) / 4096) new → ResizesFile old node size n new
+pub resizes_shorter : (old mid new : Tx) (node size n : ℕ) → n ≤ size → size ≤ 2 ^ 20 → CutsFile old node n mid → RemovesChunks mid node ((n + 4095) / 4096) ((size + 4095) / 4096) new → ResizesFile old node size n new
 resizes_shorter old mid new node size n le small cut gone = record {
   ready = λ h. gone.ready (cut.ready h);
   holds = λ b ready lt long held. record {
@@ -145,12 +145,12 @@ resizes_shorter old mid new node size n le small cut gone = record {
         ];
   };
   others = λ q ready d. gone.others q (cut.ready ready) (λ c from to. d c (omega arith)) ∙ cut.others q ready (λ c less. d c (omega arith));
-  same = (let e = gone.same in let f = cut.same in e ∙ ap (λ (r : Run). record r { machine = record r.machine { pending = new.machine.pending } }) f);
+  same = (let e = gone.same in let f = cut.same in e ∙ ap (λ (r : Tx). record r { machine = record r.machine { pending = new.machine.pending } }) f);
 }
 
 -- at most one key more is changed
-pub cut_keys : (r new : Run) (node c k : ℕ) → new ≡ with_cut r node c k → IsReady r → changed_keys new ≤ changed_keys r + 1
-cut_keys r new node c k is ready = subst (λ (x : Run). changed_keys x ≤ changed_keys r + 1) (sym is) (by (nat_lt k (length (piece_in (seen r) node c))))
+pub cut_keys : (r new : Tx) (node c k : ℕ) → new ≡ with_cut r node c k → IsReady r → changed_keys new ≤ changed_keys r + 1
+cut_keys r new node c k is ready = subst (λ (x : Tx). changed_keys x ≤ changed_keys r + 1) (sym is) (by (nat_lt k (length (piece_in (seen r) node c))))
   where
     by : (b : Bool) → changed_keys (cond b (put_in r (chunk_key node c) (take k (piece_in (seen r) node c))) r) ≤ changed_keys r + 1
     by true = keys_put r (chunk_key node c) (take k (piece_in (seen r) node c)) ready

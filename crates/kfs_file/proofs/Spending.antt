@@ -1,9 +1,9 @@
 -- What a write of many chunks takes, chunk by chunk: keys of the transaction, and ages.
 use Rattle.std.proofs.Common.{◌≡◌, ℕ, ◌<◌, ◌≤◌, ◌+◌, ◌-◌, ◌*◌, ◌%◌, ◌^◌, sym, ap, ◌∙◌, subst, arith, List, min}
-use Rattle.kfs_tx.specs.Run.{Run, RunState, Aged, IsReady, age_of, changed_keys}
+use Rattle.kfs_tx.specs.Tx.{Tx, RunningState, Aged, IsReady, age_of, changed_keys}
 use Rattle.kfs_tx.proofs.Seeing.{keys_put}
 use Rattle.kfs_objects.specs.Keys.{chunk_key}
-use Rattle.kfs_tx.specs.Run.{seen}
+use Rattle.kfs_tx.specs.Tx.{seen}
 use Rattle.kfs_file.specs.Contents.{touched, with_piece, piece_in, rewritten}
 
 -- so much for each chunk, d of n bytes being written; what is left is to spare
@@ -34,20 +34,20 @@ spent_on old mid new unit p n d count before lt least one =
     }
 
 -- one key for a piece
-pub one_key : (mid new : Run) (node c s : ℕ) (ys : List ℕ) → new ≡ with_piece mid node c s ys → IsReady mid → changed_keys new ≤ changed_keys mid + 1
-one_key mid new node c s ys is ready = subst (λ (r : Run). changed_keys r ≤ changed_keys mid + 1) (sym is) (keys_put mid (chunk_key node c) (rewritten (piece_in (seen mid) node c) s ys) ready)
+pub one_key : (mid new : Tx) (node c s : ℕ) (ys : List ℕ) → new ≡ with_piece mid node c s ys → IsReady mid → changed_keys new ≤ changed_keys mid + 1
+one_key mid new node c s ys is ready = subst (λ (r : Tx). changed_keys r ≤ changed_keys mid + 1) (sym is) (keys_put mid (chunk_key node c) (rewritten (piece_in (seen mid) node c) s ys) ready)
 
 -- both ages
-pub record AgesSpent (old now : RunState) (p n d : ℕ) : Type 0 where
+pub record AgesSpent (old now : RunningState) (p n d : ℕ) : Type 0 where
   pub device_later : old.device_age ≤ now.device_age
   pub device : Spent old.device_age now.device_age (2 ^ 16) p n d
   pub whole_later : age_of old ≤ age_of now
   pub whole : Spent (age_of old) (age_of now) (2 ^ 16) p n d
 
-pub ages_nothing : (old : RunState) (p n : ℕ) → AgesSpent old old p n 0
+pub ages_nothing : (old : RunningState) (p n : ℕ) → AgesSpent old old p n 0
 ages_nothing old p n = record { device_later = omega arith; device = spent_nothing old.device_age (2 ^ 16) p n; whole_later = omega arith; whole = spent_nothing (age_of old) (2 ^ 16) p n }
 
-pub ages_on : (old mid new : RunState) (p n d count : ℕ) → AgesSpent old mid p n d → d < n → count ≡ min (4096 - (p + d) % 4096) (n - d) → Aged mid new (2 ^ 16) → AgesSpent old new p n (d + count)
+pub ages_on : (old mid new : RunningState) (p n d count : ℕ) → AgesSpent old mid p n d → d < n → count ≡ min (4096 - (p + d) % 4096) (n - d) → Aged mid new (2 ^ 16) → AgesSpent old new p n (d + count)
 ages_on old mid new p n d count before lt least aged =
     let a = aged.device.later in
     let b = aged.whole.later in
@@ -60,11 +60,11 @@ ages_on old mid new p n d count before lt least aged =
       whole = spent_on (age_of old) (age_of mid) (age_of new) (2 ^ 16) p n d count before.whole lt least aged.whole.bounded;
     }
 
-pub ages_end : (old new : RunState) (p n d : ℕ) → AgesSpent old new p n d → Aged old new (2 ^ 16 * touched p n)
+pub ages_end : (old new : RunningState) (p n d : ℕ) → AgesSpent old new p n d → Aged old new (2 ^ 16 * touched p n)
 ages_end old new p n d spent = record { device = record { later = spent.device_later; bounded = spent.device.most }; whole = record { later = spent.whole_later; bounded = spent.whole.most } }
 
 -- the age in the middle is still below the device's bound
-pub still_young : (old mid : RunState) (p n d : ℕ) → AgesSpent old mid p n d → p + n ≤ 2 ^ 20 → age_of old < 2 ^ 63 - 2 ^ 39 → age_of mid < 2 ^ 63 - 2 ^ 38
+pub still_young : (old mid : RunningState) (p n d : ℕ) → AgesSpent old mid p n d → p + n ≤ 2 ^ 20 → age_of old < 2 ^ 63 - 2 ^ 39 → age_of mid < 2 ^ 63 - 2 ^ 38
 still_young old mid p n d spent short young = (let most = spent.whole.most in omega (arith, most))
 
 -- a key is to spare for the next piece

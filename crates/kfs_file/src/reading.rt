@@ -1,5 +1,5 @@
 ghost use Rattle.std.specs.Prelude.{◌≡◌, ◌<◌, ◌≤◌, ◌+◌, ◌-◌, ◌^◌, ◌++◌, IfOk, OnOk, IfErr};
-ghost use Rattle.kfs_tx.specs.Run.{Aged, GetFault, age_of, seen};
+ghost use Rattle.kfs_tx.specs.Tx.{Aged, GetFault, age_of, seen};
 ghost use Rattle.kfs_file.specs.Contents.{ReadsFile, piece_at, piece_in};
 
 use kfs_objects::chunk_key;
@@ -30,22 +30,22 @@ fn append_piece(
 /// Adds so many bytes of one chunk from a place on.
 fn read_piece<D: Device>(
     alloc: Global,
-    run: &mut Running<D>,
+    running: &mut Running<D>,
     node: u64,
     chunk: u32,
     start: usize,
     count: usize,
     text: &mut Text,
 ) -> Result<(), DeviceFault>
-    requires age { age_of run.old < 2 ^ 63 - 2 ^ 38 }
+    requires age { age_of running.old < 2 ^ 63 - 2 ^ 38 }
     requires fits { start + count ≤ 4096 }
-    ensures ok { OnOk result (text.new ≡ text.old ++ piece_at (piece_in (seen run.old.run) node chunk) start count) }
-    ensures same { OnOk result (run.new.run ≡ run.old.run) }
-    ensures err { IfErr result (λ fault. GetFault run.old.run fault run.new.run.machine) }
-    ensures age { Aged run.old run.new 0 }
+    ensures ok { OnOk result (text.new ≡ text.old ++ piece_at (piece_in (seen running.old.tx) node chunk) start count) }
+    ensures same { OnOk result (running.new.tx ≡ running.old.tx) }
+    ensures err { IfErr result (λ fault. GetFault running.old.tx fault running.new.tx.machine) }
+    ensures age { Aged running.old running.new 0 }
 {
     let key = chunk_key(alloc, node, chunk)?;
-    match run.get(alloc, &key)? {
+    match running.get(alloc, &key)? {
         None => append_piece(alloc, text, &[], start, count)?,
         Some(value) => append_piece(alloc, text, value.bytes(), start, count)?,
     }
@@ -56,18 +56,18 @@ fn read_piece<D: Device>(
 /// of the node reaches past the file's length.
 pub fn read_at<D: Device>(
     alloc: Global,
-    run: &mut Running<D>,
+    running: &mut Running<D>,
     node: u64,
     size: u64,
     offset: u64,
     count: u32,
 ) -> Result<Text, DeviceFault>
-    requires age { age_of run.old < 2 ^ 63 - 2 ^ 39 }
+    requires age { age_of running.old < 2 ^ 63 - 2 ^ 39 }
     requires size { size ≤ 2 ^ 20 }
-    ensures reads { IfOk result (λ text. ReadsFile (seen run.old.run) node size offset count text) }
-    ensures same { OnOk result (run.new.run ≡ run.old.run) }
-    ensures err { IfErr result (λ fault. GetFault run.old.run fault run.new.run.machine) }
-    ensures age { Aged run.old run.new 0 }
+    ensures reads { IfOk result (λ text. ReadsFile (seen running.old.tx) node size offset count text) }
+    ensures same { OnOk result (running.new.tx ≡ running.old.tx) }
+    ensures err { IfErr result (λ fault. GetFault running.old.tx fault running.new.tx.machine) }
+    ensures age { Aged running.old running.new 0 }
 {
     let end = size.min(offset.saturating_add(count as u64));
     let mut text = Text::new(alloc, &[])?;
@@ -78,7 +78,7 @@ pub fn read_at<D: Device>(
         let some = (4096 - start).min(end - place);
         read_piece(
             alloc,
-            run,
+            running,
             node,
             chunk,
             start as usize,

@@ -1,5 +1,5 @@
 ghost use Rattle.std.specs.Prelude.{◌≡◌, ◌<◌, ◌≤◌, ◌+◌, ◌-◌, ◌/◌, ◌%◌, ◌^◌, IfErr, OnOk};
-ghost use Rattle.kfs_tx.specs.Run.{Aged, age_of};
+ghost use Rattle.kfs_tx.specs.Tx.{Aged, age_of};
 ghost use Rattle.kfs_file.specs.Contents.{ChangesAtMost, CutFault, CutsFile, Fails, ResizesFile, touched, with_cut};
 
 use crate::piece::value_of;
@@ -12,19 +12,19 @@ use std::alloc::Global;
 /// Cuts the object of one chunk short to so many bytes, where it is longer.
 fn cut_piece<D: Device>(
     alloc: Global,
-    run: &mut Running<D>,
+    running: &mut Running<D>,
     node: u64,
     chunk: u32,
     count: usize,
 ) -> Result<(), DeviceFault>
-    requires age { age_of run.old < 2 ^ 63 - 2 ^ 38 }
+    requires age { age_of running.old < 2 ^ 63 - 2 ^ 38 }
     requires count { count ≤ 4096 }
-    ensures ok { OnOk result (run.new.run ≡ with_cut run.old.run node chunk count) }
-    ensures err { IfErr result (λ fault. CutFault run.old.run node chunk count fault run.new.run.machine) }
-    ensures age { Aged run.old run.new (2 ^ 16) }
+    ensures ok { OnOk result (running.new.tx ≡ with_cut running.old.tx node chunk count) }
+    ensures err { IfErr result (λ fault. CutFault running.old.tx node chunk count fault running.new.tx.machine) }
+    ensures age { Aged running.old running.new (2 ^ 16) }
 {
     let key = chunk_key(alloc, node, chunk)?;
-    let Some(old) = run.get(alloc, &key)? else {
+    let Some(old) = running.get(alloc, &key)? else {
         return Ok(());
     };
     let bytes = old.bytes();
@@ -32,52 +32,52 @@ fn cut_piece<D: Device>(
         return Ok(());
     }
     let value = value_of(alloc, &bytes[..count])?;
-    run.set(alloc, &key, &value)
+    running.set(alloc, &key, &value)
 }
 
 /// Cuts the last object of a file of so many bytes short, where it reaches past its end.
 fn cut_end<D: Device>(
     alloc: Global,
-    run: &mut Running<D>,
+    running: &mut Running<D>,
     node: u64,
     size: u64,
 ) -> Result<(), DeviceFault>
-    requires age { age_of run.old < 2 ^ 63 - 2 ^ 38 }
+    requires age { age_of running.old < 2 ^ 63 - 2 ^ 38 }
     requires size { size ≤ 2 ^ 20 }
-    ensures cuts { OnOk result (CutsFile run.old.run node size run.new.run) }
-    ensures keys { OnOk result (ChangesAtMost run.old.run ((size % 4096 + 4095) / 4096) run.new.run) }
-    ensures err { IfErr result (λ fault. Fails run.old.run 1 fault run.new.run.machine) }
-    ensures age { Aged run.old run.new (2 ^ 16) }
+    ensures cuts { OnOk result (CutsFile running.old.tx node size running.new.tx) }
+    ensures keys { OnOk result (ChangesAtMost running.old.tx ((size % 4096 + 4095) / 4096) running.new.tx) }
+    ensures err { IfErr result (λ fault. Fails running.old.tx 1 fault running.new.tx.machine) }
+    ensures age { Aged running.old running.new (2 ^ 16) }
 {
     let rest = size % 4096;
     if rest == 0 {
         return Ok(());
     }
-    cut_piece(alloc, run, node, (size / 4096) as u32, rest as usize)
+    cut_piece(alloc, running, node, (size / 4096) as u32, rest as usize)
 }
 
 /// Gives a file of so many bytes another length: it is cut short, or zeros follow. No chunk object
 /// of the node reaches past the old length.
 pub fn set_length<D: Device>(
     alloc: Global,
-    run: &mut Running<D>,
+    running: &mut Running<D>,
     node: u64,
     old: u64,
     new: u64,
 ) -> Result<(), DeviceFault>
-    requires age { age_of run.old < 2 ^ 63 - 2 ^ 39 }
+    requires age { age_of running.old < 2 ^ 63 - 2 ^ 39 }
     requires old { old ≤ 2 ^ 20 }
     requires new { new ≤ 2 ^ 20 }
-    ensures resizes { OnOk result (ResizesFile run.old.run node old new run.new.run) }
-    ensures keys { OnOk result (ChangesAtMost run.old.run (touched new (old - new)) run.new.run) }
-    ensures err { IfErr result (λ fault. Fails run.old.run (touched new (old - new)) fault run.new.run.machine) }
-    ensures age { Aged run.old run.new (2 ^ 16) }
+    ensures resizes { OnOk result (ResizesFile running.old.tx node old new running.new.tx) }
+    ensures keys { OnOk result (ChangesAtMost running.old.tx (touched new (old - new)) running.new.tx) }
+    ensures err { IfErr result (λ fault. Fails running.old.tx (touched new (old - new)) fault running.new.tx.machine) }
+    ensures age { Aged running.old running.new (2 ^ 16) }
 {
     if old <= new {
         return Ok(());
     }
-    cut_end(alloc, run, node, new)?;
+    cut_end(alloc, running, node, new)?;
     let from = ((new + 4095) / 4096) as u32;
     let to = ((old + 4095) / 4096) as u32;
-    remove_chunks(alloc, run, node, from, to)
+    remove_chunks(alloc, running, node, from, to)
 }

@@ -3,7 +3,7 @@ ghost use Rattle.std.specs.FinMap as objects;
 ghost use Rattle.kv_base.specs.Sizes.{IsValue};
 ghost use Rattle.kfs_objects.specs.Keys.{chunk_key};
 ghost use Rattle.kfs_model.specs.Tree.{written};
-ghost use Rattle.kfs_tx.specs.Run.{Aged, GetFault, age_of, seen};
+ghost use Rattle.kfs_tx.specs.Tx.{Aged, GetFault, age_of, seen};
 ghost use Rattle.kfs_file.specs.Contents.{ChangesAtMost, Fails, PieceFault, WritesFile, piece_in, rewritten, touched, with_piece};
 
 use crate::piece::value_of;
@@ -39,24 +39,24 @@ fn overwritten(alloc: Global, old: &[u8], start: usize, given: &[u8]) -> Result<
 /// the old one isn't read.
 fn new_piece<D: Device>(
     alloc: Global,
-    run: &mut Running<D>,
+    running: &mut Running<D>,
     node: u64,
     chunk: u32,
     start: usize,
     given: &[u8],
 ) -> Result<Value, DeviceFault>
-    requires age { age_of run.old < 2 ^ 63 - 2 ^ 38 }
+    requires age { age_of running.old < 2 ^ 63 - 2 ^ 38 }
     requires fits { start + length given.now ≤ 4096 }
-    ensures gives { IfOk result (λ value. value ≡ rewritten (piece_in (seen run.old.run) node chunk) start given.now) }
-    ensures same { OnOk result (run.new.run ≡ run.old.run) }
-    ensures err { IfErr result (λ fault. GetFault run.old.run fault run.new.run.machine) }
-    ensures age { Aged run.old run.new 0 }
+    ensures gives { IfOk result (λ value. value ≡ rewritten (piece_in (seen running.old.tx) node chunk) start given.now) }
+    ensures same { OnOk result (running.new.tx ≡ running.old.tx) }
+    ensures err { IfErr result (λ fault. GetFault running.old.tx fault running.new.tx.machine) }
+    ensures age { Aged running.old running.new 0 }
 {
     if given.len() == CHUNK {
         return Ok(value_of(alloc, given)?);
     }
     let key = chunk_key(alloc, node, chunk)?;
-    let bytes = match run.get(alloc, &key)? {
+    let bytes = match running.get(alloc, &key)? {
         None => overwritten(alloc, &[], start, given)?,
         Some(old) => overwritten(alloc, old.bytes(), start, given)?,
     };
@@ -66,21 +66,21 @@ fn new_piece<D: Device>(
 /// Writes some bytes of one chunk.
 fn write_piece<D: Device>(
     alloc: Global,
-    run: &mut Running<D>,
+    running: &mut Running<D>,
     node: u64,
     chunk: u32,
     start: usize,
     given: &[u8],
 ) -> Result<(), DeviceFault>
-    requires age { age_of run.old < 2 ^ 63 - 2 ^ 38 }
+    requires age { age_of running.old < 2 ^ 63 - 2 ^ 38 }
     requires fits { start + length given.now ≤ 4096 }
-    ensures ok { OnOk result (run.new.run ≡ with_piece run.old.run node chunk start given.now) }
-    ensures err { IfErr result (λ fault. PieceFault run.old.run node chunk start given.now fault run.new.run.machine) }
-    ensures age { Aged run.old run.new (2 ^ 16) }
+    ensures ok { OnOk result (running.new.tx ≡ with_piece running.old.tx node chunk start given.now) }
+    ensures err { IfErr result (λ fault. PieceFault running.old.tx node chunk start given.now fault running.new.tx.machine) }
+    ensures age { Aged running.old running.new (2 ^ 16) }
 {
-    let value = new_piece(alloc, run, node, chunk, start, given)?;
+    let value = new_piece(alloc, running, node, chunk, start, given)?;
     let key = chunk_key(alloc, node, chunk)?;
-    run.set(alloc, &key, &value)?;
+    running.set(alloc, &key, &value)?;
     Ok(())
 }
 
@@ -88,20 +88,20 @@ fn write_piece<D: Device>(
 /// lies between its end and the offset is zero. No chunk object of the node reaches past the length.
 pub fn write_at<D: Device>(
     alloc: Global,
-    run: &mut Running<D>,
+    running: &mut Running<D>,
     node: u64,
     size: u64,
     offset: u64,
     bytes: &[u8],
 ) -> Result<u64, DeviceFault>
-    requires age { age_of run.old < 2 ^ 63 - 2 ^ 39 }
+    requires age { age_of running.old < 2 ^ 63 - 2 ^ 39 }
     requires fits { offset + length bytes.now ≤ 2 ^ 20 }
     requires size { size ≤ 2 ^ 20 }
-    ensures writes { OnOk result (WritesFile run.old.run node offset bytes.now run.new.run) }
+    ensures writes { OnOk result (WritesFile running.old.tx node offset bytes.now running.new.tx) }
     ensures size { IfOk result (λ n. n ≡ max size (offset + length bytes.now)) }
-    ensures keys { OnOk result (ChangesAtMost run.old.run (touched offset (length bytes.now)) run.new.run) }
-    ensures err { IfErr result (λ fault. Fails run.old.run (touched offset (length bytes.now)) fault run.new.run.machine) }
-    ensures age { Aged run.old run.new (2 ^ 16 * touched offset (length bytes.now)) }
+    ensures keys { OnOk result (ChangesAtMost running.old.tx (touched offset (length bytes.now)) running.new.tx) }
+    ensures err { IfErr result (λ fault. Fails running.old.tx (touched offset (length bytes.now)) fault running.new.tx.machine) }
+    ensures age { Aged running.old running.new (2 ^ 16 * touched offset (length bytes.now)) }
 {
     let mut done = 0;
     while done < bytes.len() {
@@ -110,7 +110,7 @@ pub fn write_at<D: Device>(
         let start = (place % 4096) as usize;
         let rest = &bytes[done..];
         let count = (CHUNK - start).min(rest.len());
-        write_piece(alloc, run, node, chunk, start, &rest[..count])?;
+        write_piece(alloc, running, node, chunk, start, &rest[..count])?;
         done += count;
     }
     Ok(size.max(offset + bytes.len() as u64))

@@ -6,7 +6,7 @@ use Rattle.kv_device.specs.Objects.{Objects}
 use Rattle.kv_device.specs.Machine.{Machine}
 use Rattle.kfs_model.specs.Tree.{Limits}
 use Rattle.kfs_damages.specs.Damages.{IsTreeDamage}
-use Rattle.kfs_tx.specs.Run.{Fallen}
+use Rattle.kfs_tx.specs.Tx.{Fallen}
 use Rattle.kfs_judge.specs.declared.fault.JudgeFault.{JudgeFault}
 use Rattle.kfs_judge.specs.declared.fault.JudgeFault.TheVariants.{Damaged, Device}
 

@@ -4,7 +4,7 @@ ghost use Rattle.std.specs.FinMap as objects;
 ghost use Rattle.kv_device.specs.Machine.{none_open, view};
 ghost use Rattle.kv_device.specs.Objects.{pairs_from, pair_of};
 ghost use Rattle.kv_device.specs.Calls.{Ages, first_of};
-ghost use Rattle.kfs_tx.specs.Run.{Fallen};
+ghost use Rattle.kfs_tx.specs.Tx.{Fallen};
 ghost use Rattle.kfs_judge.specs.Judging.{heard};
 ghost use Rattle.kfs_judge.specs.Rows.{AreRows, Extends, ReadFails};
 

@@ -1,6 +1,6 @@
 // Contents of files.
 ghost use Rattle.std.specs.Prelude.{◌≤◌, ◌^◌, IfSome};
-ghost use Rattle.kfs_tx.specs.Run.{age_of};
+ghost use Rattle.kfs_tx.specs.Tx.{age_of};
 
 use crate::running::opened;
 use kfs_file::{read_at, remove, set_length, write_at};

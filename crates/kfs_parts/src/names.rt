@@ -1,6 +1,6 @@
 // Names in directories.
 ghost use Rattle.std.specs.Prelude.{◌≤◌, ◌^◌, IfSome};
-ghost use Rattle.kfs_tx.specs.Run.{age_of};
+ghost use Rattle.kfs_tx.specs.Tx.{age_of};
 
 use crate::running::opened;
 use kfs_dir::{add, find, is_empty, list, remove};

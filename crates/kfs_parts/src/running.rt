@@ -1,6 +1,6 @@
 // The running transaction over the device in memory.
 ghost use Rattle.std.specs.Prelude.{◌≤◌, ◌+◌, ◌^◌, IfSome, OnSome};
-ghost use Rattle.kfs_tx.specs.Run.{age_of};
+ghost use Rattle.kfs_tx.specs.Tx.{age_of};
 
 use kfs_objects::Super;
 use kfs_tx::Running;

@@ -1,6 +1,6 @@
 // The tree over a running transaction, on a small device.
 ghost use Rattle.std.specs.Prelude.{◌≤◌, ◌+◌, ◌^◌, IfSome};
-ghost use Rattle.kfs_tx.specs.Run.{age_of};
+ghost use Rattle.kfs_tx.specs.Tx.{age_of};
 
 use kfs_core::{CoreFault, Kfs, format};
 use kfs_path::{Errno, Path};

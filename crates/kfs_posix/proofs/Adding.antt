@@ -19,7 +19,7 @@ use Rattle.kfs_model.specs.Change.{weight, is_boundary}
 use Rattle.kfs_model.specs.Life.{Live, can_fail}
 use Rattle.kfs_shows.specs.Shows.{inode_of}
 use Rattle.kfs_shows.proofs.Making.{IsFreePlace, IsFresh}
-use Rattle.kfs_tx.specs.Run.{Run, SameBounds, Fallen, seen, committed, counted, with_super, is_full}
+use Rattle.kfs_tx.specs.Tx.{Tx, SameBounds, Fallen, seen, committed, counted, with_super, is_full}
 use Rattle.kfs_tx.proofs.Seeing.{ready_put, keys_put}
 use Rattle.kfs_tx.proofs.Falling.{put_falls, change_falls}
 use Rattle.kfs_core.specs.Flat.{Where}
@@ -35,7 +35,7 @@ use Rattle.kfs_posix.proofs.Going.{Fell, spare, as_before, as_after, change_goes
 use Rattle.kfs_posix.proofs.Calls.{stands_of, room_for}
 use Rattle.kfs_core.specs.declared.fault.CoreFault.TheVariants.{Device}
 
-keeps : (r : Run) (b : Bool) → SameBounds r.machine (cond b (committed r) r).machine × ((cond b (committed r) r).machine.cuts ≡ r.machine.cuts) × ((cond b (committed r) r).machine.faults ≡ r.machine.faults)
+keeps : (r : Tx) (b : Bool) → SameBounds r.machine (cond b (committed r) r).machine × ((cond b (committed r) r).machine.cuts ≡ r.machine.cuts) × ((cond b (committed r) r).machine.faults ≡ r.machine.faults)
 keeps r true = (record { most_cuts = refl; most_faults = refl; room_keys = refl; room_pages = refl }, refl, refl)
 keeps r false = (record { most_cuts = refl; most_faults = refl; room_keys = refl; room_pages = refl }, refl, refl)
 
@@ -60,12 +60,12 @@ pub record Adds (old : Book) (node : Node) (call : Call) (reply : Reply) (files 
   pub fits : old.charge + 2 ≤ old.keys
 
 module _ (old : Book) (kind : ℕ) (node : Node) (fresh : IsFresh node) (value_is : inode_of node ≡ inode_value kind 0) (none : chunks_of node ≡ 0) (w : Where)
-    (low : old.run.next + 1 < 2 ^ 63) (count : old.run.changes + 1 < 2 ^ 63) where
-  abbrev r : Run
-  r = with_entry old.run kind (parent_of w) w.name
+    (low : old.tx.next + 1 < 2 ^ 63) (count : old.tx.changes + 1 < 2 ^ 63) where
+  abbrev r : Tx
+  r = with_entry old.tx kind (parent_of w) w.name
 
   record Planned (tree : Tree) : Type 0 where
-    put : IsPut old r tree 4 (old.run.next + 1)
+    put : IsPut old r tree 4 (old.tx.next + 1)
     charged : old.charge + 2 ≡ charge tree
     chunked : old.chunks ≡ chunks tree
 
@@ -73,13 +73,13 @@ module _ (old : Book) (kind : ℕ) (node : Node) (fresh : IsFresh node) (value_i
   planned_at fits live sh q free =
       let t = live.world.tree in
       let stands = stands_of old live sh in
-      let charge_is = new_charge old.run kind (parent_of w) w.name sh.light.ready t stands sh.next q free node fresh value_is none in
-      let chunks_is = new_chunks old.run kind (parent_of w) w.name sh.light.ready t stands sh.next q free node fresh value_is none in
+      let charge_is = new_charge old.tx kind (parent_of w) w.name sh.light.ready t stands sh.next q free node fresh value_is none in
+      let chunks_is = new_chunks old.tx kind (parent_of w) w.name sh.light.ready t stands sh.next q free node fresh value_is none in
       record {
         put = record {
-          ready = entry_ready old.run kind (parent_of w) w.name sh.light.ready;
-          tree = new_is_tree old.run kind (parent_of w) w.name sh.light.ready t stands sh.next q free node fresh value_is none;
-          shows = new_shows old.run kind (parent_of w) w.name sh.light.ready t stands sh.next q free node fresh value_is none;
+          ready = entry_ready old.tx kind (parent_of w) w.name sh.light.ready;
+          tree = new_is_tree old.tx kind (parent_of w) w.name sh.light.ready t stands sh.next q free node fresh value_is none;
+          shows = new_shows old.tx kind (parent_of w) w.name sh.light.ready t stands sh.next q free node fresh value_is none;
           low = let h = sh.next in omega arith;
           few_changes = count;
           next_is = ap (λ n. n + 1) sh.next;
@@ -88,7 +88,7 @@ module _ (old : Book) (kind : ℕ) (node : Node) (fresh : IsFresh node) (value_i
           weight = refl;
           stable = refl;
           bounds = record { most_cuts = refl; most_faults = refl; room_keys = refl; room_pages = refl };
-          few = let a = entry_keys old.run kind (parent_of w) w.name sh.light.ready in let c = sh.light.few in omega arith;
+          few = let a = entry_keys old.tx kind (parent_of w) w.name sh.light.ready in let c = sh.light.few in omega arith;
           room =
               let h = both_true (nat_le (charge t) old.keys) (nat_le (chunks t) old.pages) sh.room in
               let c = sh.charged in
@@ -105,49 +105,49 @@ module _ (old : Book) (kind : ℕ) (node : Node) (fresh : IsFresh node) (value_i
       subst (λ place. Planned (with_new live.world.tree place node)) (sym at.1) (planned_at adds.fits live sh at.0 at.2)
 
   pub add_goes : (call : Call) (reply : Reply) (files : Opens) (d : ℕ) → find nat_cmp d old.files.files ≡ None → old.down ≡ None → ((live : Live) → ShowsLive old live → Adds old node call reply files d w live)
-      → GoesOn old (lines.Call call) (answers.Reply reply) (record old { run = added old.run kind (parent_of w) w.name; charge = old.charge + 2; files = files })
+      → GoesOn old (lines.Call call) (answers.Reply reply) (record old { tx = added old.tx kind (parent_of w) w.name; charge = old.charge + 2; files = files })
   add_goes call reply files d free up adds =
-      let k = keeps (counted r 4 (old.run.next + 1)) (is_full (old.run.since + 1) (old.run.weight + 4)) in
-      change_goes_at old (record old { run = added old.run kind (parent_of w) w.name; charge = old.charge + 2; files = files }) call reply 4 d free up k.1 k.2
+      let k = keeps (counted r 4 (old.tx.next + 1)) (is_full (old.tx.since + 1) (old.tx.weight + 4)) in
+      change_goes_at old (record old { tx = added old.tx kind (parent_of w) w.name; charge = old.charge + 2; files = files }) call reply 4 d free up k.1 k.2
       (record { most_cuts = k.0.most_cuts; most_faults = k.0.most_faults; room_keys = k.0.room_keys; room_pages = k.0.room_pages })
       (λ live sh.
       let a = adds live sh in
       let plan = planned call reply files d live sh a in
       let tree = with_new live.world.tree a.place node in
-      (record { tree = tree; desk = desk_of files }, a.step_is, a.weighs, change_shown old live sh r tree 4 (old.run.next + 1) (old.charge + 2) old.chunks plan.put plan.charged plan.chunked files a.holds))
+      (record { tree = tree; desk = desk_of files }, a.step_is, a.weighs, change_shown old live sh r tree 4 (old.tx.next + 1) (old.charge + 2) old.chunks plan.put plan.charged plan.chunked files a.holds))
 
   pub add_falls : (new : Book) (call : Call) (reply : Reply) (files : Opens) (fault : DeviceFault) → old.down ≡ None → new.down ≡ Some (cause_of fault) → limits_of new ≡ limits_of old → ((world : World) (cause : Cause) → can_fail world call cause ≡ true)
       → ((live : Live) → ShowsLive old live → Adds old node call reply files (spare old) w live)
-      → AddFault old.run kind (parent_of w) w.name fault new.run.machine → Refuses old call (Device fault) new
+      → AddFault old.tx kind (parent_of w) w.name fault new.tx.machine → Refuses old call (Device fault) new
   add_falls new call reply files fault up down same can adds h = fall_goes old new call fault up down same (λ live sh. fell live sh (adds live sh) h)
     where
-      before : (live : Live) → ShowsLive old live → Fallen old.run.machine fault old.run.machine.stable new.run.machine → Fell old new live call fault
-      before live sh a = record { stands = old.run.machine.stable; fallen = a; stood = as_before sh.saved; can = λ cause e. can live.world cause }
+      before : (live : Live) → ShowsLive old live → Fallen old.tx.machine fault old.tx.machine.stable new.tx.machine → Fell old new live call fault
+      before live sh a = record { stands = old.tx.machine.stable; fallen = a; stood = as_before sh.saved; can = λ cause e. can live.world cause }
 
-      fell : (live : Live) → ShowsLive old live → Adds old node call reply files (spare old) w live → AddFault old.run kind (parent_of w) w.name fault new.run.machine → Fell old new live call fault
-      fell live sh adds (inl a) = before live sh (put_falls old.run (inode_key old.run.next) (inode_value kind 0) fault new.run.machine sh.light.ready (let f = sh.light.few in let l = sh.light.light in omega arith) (small_inode kind (inode_key old.run.next)) a)
+      fell : (live : Live) → ShowsLive old live → Adds old node call reply files (spare old) w live → AddFault old.tx kind (parent_of w) w.name fault new.tx.machine → Fell old new live call fault
+      fell live sh adds (inl a) = before live sh (put_falls old.tx (inode_key old.tx.next) (inode_value kind 0) fault new.tx.machine sh.light.ready (let f = sh.light.few in let l = sh.light.light in omega arith) (small_inode kind (inode_key old.tx.next)) a)
       fell live sh adds (inr (inl a)) =
-          let ready1 = ready_put old.run (inode_key old.run.next) (inode_value kind 0) sh.light.ready in
-          let few1 = keys_put old.run (inode_key old.run.next) (inode_value kind 0) sh.light.ready in
-          let f = put_falls (with_inode old.run kind) (entry_key (parent_of w) w.name) (entry_value old.run.next) fault new.run.machine ready1 (let f = sh.light.few in let l = sh.light.light in omega arith) (small_value old.run.next (entry_key (parent_of w) w.name)) a in
+          let ready1 = ready_put old.tx (inode_key old.tx.next) (inode_value kind 0) sh.light.ready in
+          let few1 = keys_put old.tx (inode_key old.tx.next) (inode_value kind 0) sh.light.ready in
+          let f = put_falls (with_inode old.tx kind) (entry_key (parent_of w) w.name) (entry_value old.tx.next) fault new.tx.machine ready1 (let f = sh.light.few in let l = sh.light.light in omega arith) (small_value old.tx.next (entry_key (parent_of w) w.name)) a in
           before live sh (record { cause = f.cause; stable = f.stable; bounds = record { most_cuts = f.bounds.most_cuts; most_faults = f.bounds.most_faults; room_keys = f.bounds.room_keys; room_pages = f.bounds.room_pages } })
       fell live sh adds (inr (inr a)) =
           let plan = planned call reply files (spare old) live sh adds in
           let tree = with_new live.world.tree adds.place node in
           let put = plan.put in
-          let shows = sees old live sh r tree 4 (old.run.next + 1) (old.charge + 2) old.chunks put plan.charged plan.chunked files adds.holds in
-          let saved = to_save old live sh r tree 4 (old.run.next + 1) (old.charge + 2) old.chunks put plan.charged plan.chunked files adds.holds in
-          let room = room_for (seen (with_super r (old.run.next + 1))) tree (live.past.count + 1) (limits_of old) r.machine put.tree shows (let h = put.low in omega arith) put.room sh.keys sh.pages in
-          elim (change_falls r 4 (old.run.next + 1) fault new.run.machine put.ready (let f = put.few in let l = sh.light.light in omega arith) room a) [
+          let shows = sees old live sh r tree 4 (old.tx.next + 1) (old.charge + 2) old.chunks put plan.charged plan.chunked files adds.holds in
+          let saved = to_save old live sh r tree 4 (old.tx.next + 1) (old.charge + 2) old.chunks put plan.charged plan.chunked files adds.holds in
+          let room = room_for (seen (with_super r (old.tx.next + 1))) tree (live.past.count + 1) (limits_of old) r.machine put.tree shows (let h = put.low in omega arith) put.room sh.keys sh.pages in
+          elim (change_falls r 4 (old.tx.next + 1) fault new.tx.machine put.ready (let f = put.few in let l = sh.light.light in omega arith) room a) [
             | inl f ↦ before live sh (record { cause = f.cause; stable = f.stable; bounds = record { most_cuts = f.bounds.most_cuts; most_faults = f.bounds.most_faults; room_keys = f.bounds.room_keys; room_pages = f.bounds.room_pages } })
             | inr x ↦
                 let f = x.1 in
                 record {
-                  stands = seen (with_super r (old.run.next + 1));
+                  stands = seen (with_super r (old.tx.next + 1));
                   fallen = record { cause = f.cause; stable = f.stable; bounds = record { most_cuts = f.bounds.most_cuts; most_faults = f.bounds.most_faults; room_keys = f.bounds.room_keys; room_pages = f.bounds.room_pages } };
                   stood = as_after 4 (ap (weight live.world call) adds.step_is ∙ adds.weighs)
                       (ap (λ (a : After). is_boundary live.since call a.reply (Some 4)) adds.step_is ∙ (λ i. is_full (sym sh.changes i + 1) (sym sh.weight i + 4)) ∙ x.0)
-                      (subst (λ t. IsWhole (limits_of old) (seen (with_super r (old.run.next + 1))) t (live.past.count + 1)) (ap (λ (a : After). a.world.tree) (sym adds.step_is)) saved);
+                      (subst (λ t. IsWhole (limits_of old) (seen (with_super r (old.tx.next + 1))) t (live.past.count + 1)) (ap (λ (a : After). a.world.tree) (sym adds.step_is)) saved);
                   can = λ cause e. can live.world cause;
                 }
           ]

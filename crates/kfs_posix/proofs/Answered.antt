@@ -16,10 +16,10 @@ use Rattle.kfs_model.specs.declared.Line.TheVariants as lines
 use Rattle.kfs_model.specs.declared.Answer.TheVariants as answers
 use Rattle.kfs_model.specs.Ladder.{◌>>=◌}
 use Rattle.kfs_model.specs.Tree.{Name}
-use Rattle.kfs_tx.specs.Run.{RunState, Aged, age_of, seen, committed, CommitFault}
+use Rattle.kfs_tx.specs.Tx.{RunningState, Aged, age_of, seen, committed, CommitFault}
 use Rattle.kfs_core.specs.declared.fault.CoreFault.{CoreFault}
 use Rattle.kfs_core.specs.declared.fault.CoreFault.TheVariants.{No, Device}
-use Rattle.kfs_core.specs.Core.{KfsState, run_in, Stays}
+use Rattle.kfs_core.specs.Core.{KfsState, tx_in, Stays}
 use Rattle.kfs_core.specs.Flat.{Where, place_in, stat_in, list_in}
 use Rattle.kfs_core.specs.Gives.{Fails, LeavesAtFault, CommitFails}
 use Rattle.kfs_core.specs.Making.{MkdirFails, made, parent_of}
@@ -60,66 +60,66 @@ module _ (old : SessionState) (k0 k1 : KfsState) (o : Opens) (d : Option Cause) 
   b = book_of k0 o d
 
   -- answered, with all as it was
-  same_goes : (call : Call) (reply : Reply) → run_in k1 ≡ run_in k0 → GoesOn b (lines.Call call) (answers.Reply reply) b → Goes old call reply k1 o d
+  same_goes : (call : Call) (reply : Reply) → tx_in k1 ≡ tx_in k0 → GoesOn b (lines.Call call) (answers.Reply reply) b → Goes old call reply k1 o d
   same_goes call reply leaves goes =
-      let e : book_of k1 o d ≡ b = stays_book k0 k1 o d rest ∙ (λ i. record b { run = leaves i }) in
+      let e : book_of k1 o d ≡ b = stays_book k0 k1 o d rest ∙ (λ i. record b { tx = leaves i }) in
       subst (λ (s : SessionState). GoesOn s.book (lines.Call call) (answers.Reply reply) (book_of k1 o d)) is (subst (λ c. GoesOn b (lines.Call call) (answers.Reply reply) c) (sym e) goes)
 
   -- refused, or down
   fault_goes : (call : Call) (reply : Reply) (fault : CoreFault) (d1 : Option Cause) → reply ≡ refusal fault → d1 ≡ down_after d fault
-      → Refuses b call fault (record b { run = run_in k1; down = down_after d fault }) → Denied old call fault reply k1 o d1
-  fault_goes call reply fault d1 reply_is down refuses = record { goes = goes; answerable = answers_it old k0 o d is up call fault (record b { run = run_in k1; down = down_after d fault }) refuses }
+      → Refuses b call fault (record b { tx = tx_in k1; down = down_after d fault }) → Denied old call fault reply k1 o d1
+  fault_goes call reply fault d1 reply_is down refuses = record { goes = goes; answerable = answers_it old k0 o d is up call fault (record b { tx = tx_in k1; down = down_after d fault }) refuses }
     where
       goes : Goes old call reply k1 o d1
       goes =
-          let e : book_of k1 o d1 ≡ record b { run = run_in k1; down = down_after d fault } = ap (λ (k : KfsState). book_of k o d1) rest ∙ (λ i. record b { run = run_in k1; down = down i }) in
+          let e : book_of k1 o d1 ≡ record b { tx = tx_in k1; down = down_after d fault } = ap (λ (k : KfsState). book_of k o d1) rest ∙ (λ i. record b { tx = tx_in k1; down = down i }) in
           subst (λ (s : SessionState). GoesOn s.book (lines.Call call) (answers.Reply reply) (book_of k1 o d1)) is
           (subst (λ r. GoesOn b (lines.Call call) (answers.Reply r) (book_of k1 o d1)) (sym reply_is) (subst (λ c. GoesOn b (lines.Call call) (answers.Reply (refusal fault)) c) (sym e) refuses.goes))
 
-  pub stat_answered : (path : List ℕ) (n kind size : ℕ) (reply : Reply) → found_by (seen (run_in k0)) path ≡ Ok (n, kind, size) → reply ≡ told_by (n, kind, size) → run_in k1 ≡ run_in k0 → Goes old (calls.Stat path) reply k1 o d
+  pub stat_answered : (path : List ℕ) (n kind size : ℕ) (reply : Reply) → found_by (seen (tx_in k0)) path ≡ Ok (n, kind, size) → reply ≡ told_by (n, kind, size) → tx_in k1 ≡ tx_in k0 → Goes old (calls.Stat path) reply k1 o d
   stat_answered path n kind size reply gives told leaves = same_goes (calls.Stat path) reply leaves
-      (subst (λ r. GoesOn b (lines.Call (calls.Stat path)) (answers.Reply r) b) (sym told) (stat_goes b path (Ok (told_by (n, kind, size))) up (stat_same (seen (run_in k0)) path ∙ ap by_told gives)))
+      (subst (λ r. GoesOn b (lines.Call (calls.Stat path)) (answers.Reply r) b) (sym told) (stat_goes b path (Ok (told_by (n, kind, size))) up (stat_same (seen (tx_in k0)) path ∙ ap by_told gives)))
 
-  pub stat_refused : (path : List ℕ) (reply : Reply) (fault : CoreFault) (d1 : Option Cause) → Fails fault (found_by (seen (run_in k0)) path) → LeavesAtFault (run_in k0) fault (run_in k1) → reply ≡ refusal fault → d1 ≡ down_after d fault → Denied old (calls.Stat path) fault reply k1 o d1
+  pub stat_refused : (path : List ℕ) (reply : Reply) (fault : CoreFault) (d1 : Option Cause) → Fails fault (found_by (seen (tx_in k0)) path) → LeavesAtFault (tx_in k0) fault (tx_in k1) → reply ≡ refusal fault → d1 ≡ down_after d fault → Denied old (calls.Stat path) fault reply k1 o d1
   stat_refused path reply fault d1 fails leaves reply_is down = fault_goes (calls.Stat path) reply fault d1 reply_is down
-      (read_refused b (calls.Stat path) (stat_in (seen (run_in k0)) path) fault (run_in k1) up (by fault fails) leaves (λ w. refl) (λ w. refl) (λ e is. stat_goes b path (Err e) up is))
+      (read_refused b (calls.Stat path) (stat_in (seen (tx_in k0)) path) fault (tx_in k1) up (by fault fails) leaves (λ w. refl) (λ w. refl) (λ e is. stat_goes b path (Err e) up is))
     where
-      by : (fault : CoreFault) → Fails fault (found_by (seen (run_in k0)) path) → Fails fault (stat_in (seen (run_in k0)) path)
-      by (No e) h = stat_same (seen (run_in k0)) path ∙ ap by_told h
+      by : (fault : CoreFault) → Fails fault (found_by (seen (tx_in k0)) path) → Fails fault (stat_in (seen (tx_in k0)) path)
+      by (No e) h = stat_same (seen (tx_in k0)) path ∙ ap by_told h
       by (Device f) h = tt
 
-  pub list_answered : (path : List ℕ) (names : List Name) → k0.keys ≤ 68544 → names_by (seen (run_in k0)) path ≡ Ok names → run_in k1 ≡ run_in k0 → Goes old (calls.List path) (replies.Names names) k1 o d
+  pub list_answered : (path : List ℕ) (names : List Name) → k0.keys ≤ 68544 → names_by (seen (tx_in k0)) path ≡ Ok names → tx_in k1 ≡ tx_in k0 → Goes old (calls.List path) (replies.Names names) k1 o d
   list_answered path names small gives leaves = same_goes (calls.List path) (replies.Names names) leaves
-      (list_goes b path (Ok (replies.Names names)) up (omega arith) (list_same (seen (run_in k0)) path ∙ ap by_names gives))
+      (list_goes b path (Ok (replies.Names names)) up (omega arith) (list_same (seen (tx_in k0)) path ∙ ap by_names gives))
 
-  pub list_refused : (path : List ℕ) (reply : Reply) (fault : CoreFault) (d1 : Option Cause) → k0.keys ≤ 68544 → Fails fault (names_by (seen (run_in k0)) path) → LeavesAtFault (run_in k0) fault (run_in k1) → reply ≡ refusal fault → d1 ≡ down_after d fault → Denied old (calls.List path) fault reply k1 o d1
+  pub list_refused : (path : List ℕ) (reply : Reply) (fault : CoreFault) (d1 : Option Cause) → k0.keys ≤ 68544 → Fails fault (names_by (seen (tx_in k0)) path) → LeavesAtFault (tx_in k0) fault (tx_in k1) → reply ≡ refusal fault → d1 ≡ down_after d fault → Denied old (calls.List path) fault reply k1 o d1
   list_refused path reply fault d1 small fails leaves reply_is down = fault_goes (calls.List path) reply fault d1 reply_is down
-      (read_refused b (calls.List path) (list_in (seen (run_in k0)) path) fault (run_in k1) up (by fault fails) leaves (λ w. refl) (λ w. refl) (λ e is. list_goes b path (Err e) up (omega arith) is))
+      (read_refused b (calls.List path) (list_in (seen (tx_in k0)) path) fault (tx_in k1) up (by fault fails) leaves (λ w. refl) (λ w. refl) (λ e is. list_goes b path (Err e) up (omega arith) is))
     where
-      by : (fault : CoreFault) → Fails fault (names_by (seen (run_in k0)) path) → Fails fault (list_in (seen (run_in k0)) path)
-      by (No e) h = list_same (seen (run_in k0)) path ∙ ap by_names h
+      by : (fault : CoreFault) → Fails fault (names_by (seen (tx_in k0)) path) → Fails fault (list_in (seen (tx_in k0)) path)
+      by (No e) h = list_same (seen (tx_in k0)) path ∙ ap by_names h
       by (Device f) h = tt
 
   -- ---- sync
 
-  pub commit_answered : (call : Call) → run_in k1 ≡ committed (run_in k0) → GoesOn b (lines.Call call) (answers.Reply replies.Done) (record b { run = committed (run_in k0) }) → Goes old call replies.Done k1 o d
+  pub commit_answered : (call : Call) → tx_in k1 ≡ committed (tx_in k0) → GoesOn b (lines.Call call) (answers.Reply replies.Done) (record b { tx = committed (tx_in k0) }) → Goes old call replies.Done k1 o d
   commit_answered call done goes =
-      let e : book_of k1 o d ≡ record b { run = committed (run_in k0) } = stays_book k0 k1 o d rest ∙ (λ i. record b { run = done i }) in
+      let e : book_of k1 o d ≡ record b { tx = committed (tx_in k0) } = stays_book k0 k1 o d rest ∙ (λ i. record b { tx = done i }) in
       subst (λ (s : SessionState). GoesOn s.book (lines.Call call) (answers.Reply replies.Done) (book_of k1 o d)) is (subst (λ c. GoesOn b (lines.Call call) (answers.Reply replies.Done) c) (sym e) goes)
 
-  pub commit_refused : (call : Call) (reply : Reply) (fault : CoreFault) (d1 : Option Cause) → CommitFails (run_in k0) (run_in k1) fault → reply ≡ refusal fault → d1 ≡ down_after d fault
-      → ((f : DeviceFault) → CommitFault (run_in k0) f (run_in k1).machine → Refuses b call (Device f) (record b { run = run_in k1; down = Some (cause_of f) })) → Denied old call fault reply k1 o d1
+  pub commit_refused : (call : Call) (reply : Reply) (fault : CoreFault) (d1 : Option Cause) → CommitFails (tx_in k0) (tx_in k1) fault → reply ≡ refusal fault → d1 ≡ down_after d fault
+      → ((f : DeviceFault) → CommitFault (tx_in k0) f (tx_in k1).machine → Refuses b call (Device f) (record b { tx = tx_in k1; down = Some (cause_of f) })) → Denied old call fault reply k1 o d1
   commit_refused call reply fault d1 fails reply_is down falls = fault_goes call reply fault d1 reply_is down (by fault fails)
     where
-      by : (fault : CoreFault) → CommitFails (run_in k0) (run_in k1) fault → Refuses b call fault (record b { run = run_in k1; down = down_after d fault })
+      by : (fault : CoreFault) → CommitFails (tx_in k0) (tx_in k1) fault → Refuses b call fault (record b { tx = tx_in k1; down = down_after d fault })
       by (No e) h = absurd h
       by (Device f) h = falls f h
 
-  pub sync_answered : run_in k1 ≡ committed (run_in k0) → Goes old calls.Sync replies.Done k1 o d
+  pub sync_answered : tx_in k1 ≡ committed (tx_in k0) → Goes old calls.Sync replies.Done k1 o d
   sync_answered done = commit_answered calls.Sync done (sync_goes b up)
 
-  pub sync_refused : (reply : Reply) (fault : CoreFault) (d1 : Option Cause) → CommitFails (run_in k0) (run_in k1) fault → reply ≡ refusal fault → d1 ≡ down_after d fault → Denied old calls.Sync fault reply k1 o d1
-  sync_refused reply fault d1 fails reply_is down = commit_refused calls.Sync reply fault d1 fails reply_is down (λ f h. sync_falls b (record b { run = run_in k1; down = Some (cause_of f) }) f up refl refl h)
+  pub sync_refused : (reply : Reply) (fault : CoreFault) (d1 : Option Cause) → CommitFails (tx_in k0) (tx_in k1) fault → reply ≡ refusal fault → d1 ≡ down_after d fault → Denied old calls.Sync fault reply k1 o d1
+  sync_refused reply fault d1 fails reply_is down = commit_refused calls.Sync reply fault d1 fails reply_is down (λ f h. sync_falls b (record b { tx = tx_in k1; down = Some (cause_of f) }) f up refl refl h)
 
   -- ---- fsync
 
@@ -128,12 +128,12 @@ module _ (old : SessionState) (k0 k1 : KfsState) (o : Opens) (d : Option Cause) 
       ap (λ desk. settled live.world (or_else (opened desk fd) EBADF >>= λ it. answered_by live.world replies.Done)) sh.desk
       ∙ ap (λ x. settled live.world (or_else x EBADF >>= λ it. answered_by live.world replies.Done)) (opened_same o fd ∙ ap (option_map described) (sym e))
 
-  pub fsync_answered : (fd : ℕ) (it : ℕ × OpenFile) → Some it ≡ open_at o fd → run_in k1 ≡ committed (run_in k0) → Goes old (calls.Fsync fd) replies.Done k1 o d
+  pub fsync_answered : (fd : ℕ) (it : ℕ × OpenFile) → Some it ≡ open_at o fd → tx_in k1 ≡ committed (tx_in k0) → Goes old (calls.Fsync fd) replies.Done k1 o d
   fsync_answered fd it e done = commit_answered (calls.Fsync fd) done (commit_goes b (calls.Fsync fd) up (λ w. refl) refl (fsync_did fd it e))
 
-  pub fsync_refused : (fd : ℕ) (it : ℕ × OpenFile) → Some it ≡ open_at o fd → (reply : Reply) (fault : CoreFault) (d1 : Option Cause) → CommitFails (run_in k0) (run_in k1) fault → reply ≡ refusal fault → d1 ≡ down_after d fault → Denied old (calls.Fsync fd) fault reply k1 o d1
+  pub fsync_refused : (fd : ℕ) (it : ℕ × OpenFile) → Some it ≡ open_at o fd → (reply : Reply) (fault : CoreFault) (d1 : Option Cause) → CommitFails (tx_in k0) (tx_in k1) fault → reply ≡ refusal fault → d1 ≡ down_after d fault → Denied old (calls.Fsync fd) fault reply k1 o d1
   fsync_refused fd it e reply fault d1 fails reply_is down = commit_refused (calls.Fsync fd) reply fault d1 fails reply_is down
-      (λ f h. commit_falls_in b (record b { run = run_in k1; down = Some (cause_of f) }) (calls.Fsync fd) f up refl refl (λ w. refl) refl (λ w cause. any_cause w (calls.Fsync fd) refl refl refl cause) (fsync_did fd it e) h)
+      (λ f h. commit_falls_in b (record b { tx = tx_in k1; down = Some (cause_of f) }) (calls.Fsync fd) f up refl refl (λ w. refl) refl (λ w cause. any_cause w (calls.Fsync fd) refl refl refl cause) (fsync_did fd it e) h)
 
 -- ---- mkdir
 
@@ -141,30 +141,30 @@ module _ (old : SessionState) (k0 k1 : KfsState) (o : Opens) (d : Option Cause) 
   abbrev book : Book
   book = book_of k0 o d
 
-  low : (run_in k0).next + 1 < 2 ^ 63
+  low : (tx_in k0).next + 1 < 2 ^ 63
   low = let a : age_of (running_in (state_of k0 o d)) < 2 ^ 63 - 2 ^ 40 = subst (λ s. age_of (running_in s) < 2 ^ 63 - 2 ^ 40) (sym is) age in omega arith
 
-  few : (run_in k0).changes + 1 < 2 ^ 63
+  few : (tx_in k0).changes + 1 < 2 ^ 63
   few = let a : age_of (running_in (state_of k0 o d)) < 2 ^ 63 - 2 ^ 40 = subst (λ s. age_of (running_in s) < 2 ^ 63 - 2 ^ 40) (sym is) age in omega arith
 
-  pub mkdir_answered : (w : Where) → place_in (seen (run_in k0)) k0.keys k0.charge path ≡ Ok w → run_in k1 ≡ made (run_in k0) (parent_of w) w.name → k1.charge ≡ k0.charge + 2 → Goes old (calls.Mkdir path) replies.Done k1 o d
+  pub mkdir_answered : (w : Where) → place_in (seen (tx_in k0)) k0.keys k0.charge path ≡ Ok w → tx_in k1 ≡ made (tx_in k0) (parent_of w) w.name → k1.charge ≡ k0.charge + 2 → Goes old (calls.Mkdir path) replies.Done k1 o d
   mkdir_answered w judged done charge =
       subst (λ (s : SessionState). GoesOn s.book (lines.Call (calls.Mkdir path)) (answers.Reply replies.Done) (book_of k1 o d)) is
-      (subst (λ c. GoesOn book (lines.Call (calls.Mkdir path)) (answers.Reply replies.Done) c) (λ i. record { run = sym done i; keys = sym keys i; pages = sym pages i; charge = sym charge i; chunks = sym chunks i; files = o; down = d })
-      (mkdir_goes book path w up low few (place_fits (seen (run_in k0)) k0.keys k0.charge path w judged) judged))
+      (subst (λ c. GoesOn book (lines.Call (calls.Mkdir path)) (answers.Reply replies.Done) c) (λ i. record { tx = sym done i; keys = sym keys i; pages = sym pages i; charge = sym charge i; chunks = sym chunks i; files = o; down = d })
+      (mkdir_goes book path w up low few (place_fits (seen (tx_in k0)) k0.keys k0.charge path w judged) judged))
 
-  pub mkdir_not_made : (reply : Reply) (fault : CoreFault) (d1 : Option Cause) → MkdirFails (run_in k0) (place_in (seen (run_in k0)) k0.keys k0.charge path) fault (run_in k1) → k1.charge ≡ k0.charge → reply ≡ refusal fault → d1 ≡ down_after d fault → Denied old (calls.Mkdir path) fault reply k1 o d1
+  pub mkdir_not_made : (reply : Reply) (fault : CoreFault) (d1 : Option Cause) → MkdirFails (tx_in k0) (place_in (seen (tx_in k0)) k0.keys k0.charge path) fault (tx_in k1) → k1.charge ≡ k0.charge → reply ≡ refusal fault → d1 ≡ down_after d fault → Denied old (calls.Mkdir path) fault reply k1 o d1
   mkdir_not_made reply fault d1 fails charge reply_is down = record {
     goes = subst (λ (s : SessionState). GoesOn s.book (lines.Call (calls.Mkdir path)) (answers.Reply reply) (book_of k1 o d1)) is
         (subst (λ r. GoesOn book (lines.Call (calls.Mkdir path)) (answers.Reply r) (book_of k1 o d1)) (sym reply_is)
-        (subst (λ c. GoesOn book (lines.Call (calls.Mkdir path)) (answers.Reply (refusal fault)) c) (λ i. record { run = run_in k1; keys = sym keys i; pages = sym pages i; charge = sym charge i; chunks = sym chunks i; files = o; down = sym down i }) (by fault fails).goes));
-    answerable = answers_it old k0 o d is up (calls.Mkdir path) fault (record book { run = run_in k1; down = down_after d fault }) (by fault fails);
+        (subst (λ c. GoesOn book (lines.Call (calls.Mkdir path)) (answers.Reply (refusal fault)) c) (λ i. record { tx = tx_in k1; keys = sym keys i; pages = sym pages i; charge = sym charge i; chunks = sym chunks i; files = o; down = sym down i }) (by fault fails).goes));
+    answerable = answers_it old k0 o d is up (calls.Mkdir path) fault (record book { tx = tx_in k1; down = down_after d fault }) (by fault fails);
   }
     where
-      by : (fault : CoreFault) → MkdirFails (run_in k0) (place_in (seen (run_in k0)) k0.keys k0.charge path) fault (run_in k1) → Refuses book (calls.Mkdir path) fault (record book { run = run_in k1; down = down_after d fault })
-      by (No e) h = errs book (record book { run = run_in k1 }) (calls.Mkdir path) e (subst (λ r. GoesOn book (lines.Call (calls.Mkdir path)) (answers.Reply (replies.Err e)) (record book { run = r })) (sym h.1) (mkdir_refused book path e up h.0))
-      by (Device f) (inl h) = mkdir_unread book path (record book { run = run_in k1; down = Some (cause_of f) }) f up refl refl h
-      by (Device f) (inr h) = mkdir_falls book path (record book { run = run_in k1; down = Some (cause_of f) }) h.0 f up refl refl low few (place_fits (seen (run_in k0)) k0.keys k0.charge path h.0 h.1) h.1 h.2
+      by : (fault : CoreFault) → MkdirFails (tx_in k0) (place_in (seen (tx_in k0)) k0.keys k0.charge path) fault (tx_in k1) → Refuses book (calls.Mkdir path) fault (record book { tx = tx_in k1; down = down_after d fault })
+      by (No e) h = errs book (record book { tx = tx_in k1 }) (calls.Mkdir path) e (subst (λ r. GoesOn book (lines.Call (calls.Mkdir path)) (answers.Reply (replies.Err e)) (record book { tx = r })) (sym h.1) (mkdir_refused book path e up h.0))
+      by (Device f) (inl h) = mkdir_unread book path (record book { tx = tx_in k1; down = Some (cause_of f) }) f up refl refl h
+      by (Device f) (inr h) = mkdir_falls book path (record book { tx = tx_in k1; down = Some (cause_of f) }) h.0 f up refl refl low few (place_fits (seen (tx_in k0)) k0.keys k0.charge path h.0 h.1) h.1 h.2
 
 -- ---- a session that is down
 
@@ -177,7 +177,7 @@ off_goes old k0 o d call is down = down_goes old.book call (ap (λ (s : SessionS
 pub off_keeps : (old : SessionState) (k0 : KfsState) (o : Opens) (d : Option Cause) → state_of k0 o d ≡ old → true ≡ is_some d → IsSome old.book.down × (old.book ≡ old.book)
 off_keeps old k0 o d is down = (subst (λ (s : SessionState). IsSome s.book.down) is (some_of d down), refl)
 
-pub aged_none : (s : RunState) → Aged s s (2 ^ 38)
+pub aged_none : (s : RunningState) → Aged s s (2 ^ 38)
 aged_none s = record { device = record { later = omega arith; bounded = omega arith }; whole = record { later = omega arith; bounded = omega arith } }
 
 pub aged_by : (old : SessionState) (k0 k1 : KfsState) (o : Opens) (d : Option Cause) (n : ℕ) → n ≤ 2 ^ 38 → state_of k0 o d ≡ old → Aged k0.running k1.running n → Aged (running_in old) k1.running (2 ^ 38)
@@ -198,10 +198,10 @@ room_goes b up = idle_goes b calls.Room (replies.Room b.charge b.keys b.chunks b
 pub room_answered : (old : SessionState) (k0 : KfsState) (o : Opens) (d : Option Cause) (reply : Reply) → state_of k0 o d ≡ old → d ≡ None → reply ≡ replies.Room k0.charge k0.keys k0.chunks k0.pages → GoesOn old.book (lines.Call calls.Room) (answers.Reply reply) old.book
 room_answered old k0 o d reply is up e = subst (λ (s : SessionState). GoesOn s.book (lines.Call calls.Room) (answers.Reply reply) s.book) is (subst (λ r. GoesOn (book_of k0 o d) (lines.Call calls.Room) (answers.Reply r) (book_of k0 o d)) (sym e) (room_goes (book_of k0 o d) up))
 
-pub room_quiet : (old : SessionState) (k0 : KfsState) (o : Opens) (d : Option Cause) (reply : Reply) → state_of k0 o d ≡ old → d ≡ None → reply ≡ replies.Room k0.charge k0.keys k0.chunks k0.pages → Counts old.book.run.machine reply old.book.run.machine × KeepsCause old.book reply old.book
+pub room_quiet : (old : SessionState) (k0 : KfsState) (o : Opens) (d : Option Cause) (reply : Reply) → state_of k0 o d ≡ old → d ≡ None → reply ≡ replies.Room k0.charge k0.keys k0.chunks k0.pages → Counts old.book.tx.machine reply old.book.tx.machine × KeepsCause old.book reply old.book
 room_quiet old k0 o d reply is up e =
     let none : old.book.down ≡ None = sym (ap (λ (s : SessionState). s.book.down) is) ∙ up in
-    subst (λ r. Counts old.book.run.machine r old.book.run.machine × KeepsCause old.book r old.book) (sym e) ((refl, refl), (none, none))
+    subst (λ r. Counts old.book.tx.machine r old.book.tx.machine × KeepsCause old.book r old.book) (sym e) ((refl, refl), (none, none))
 
 -- a descriptor that isn't open
 pub fsync_bad : (old : SessionState) (k0 : KfsState) (o : Opens) (d : Option Cause) (fd : ℕ) → state_of k0 o d ≡ old → d ≡ None → None ≡ open_at o fd → GoesOn old.book (lines.Call (calls.Fsync fd)) (answers.Reply (replies.Err EBADF)) old.book

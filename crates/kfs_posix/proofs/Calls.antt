@@ -23,7 +23,7 @@ use Rattle.kfs_model.specs.Change.{weight, commits, is_boundary}
 use Rattle.kfs_model.specs.Life.{Live, live_after, live_with, can_fail}
 use Rattle.kfs_shows.specs.Shows.{Shows}
 use Rattle.kfs_shows.proofs.Counting.{few_objects, few_pages}
-use Rattle.kfs_tx.specs.Run.{Run, IsReady, GetFault, CommitFault, seen, committed}
+use Rattle.kfs_tx.specs.Tx.{Tx, IsReady, GetFault, CommitFault, seen, committed}
 use Rattle.kfs_tx.proofs.Seeing.{seen_committed}
 use Rattle.kfs_tx.proofs.Falling.{get_falls, get_not_off, commit_falls}
 use Rattle.kfs_core.specs.Flat.{stat_in, list_in}
@@ -37,7 +37,7 @@ use Rattle.kfs_posix.proofs.Rooms.{named_fits}
 use Rattle.kfs_posix.proofs.Going.{spare, spare_free, as_before, as_synced, idle_goes, fall_goes, up_goes, answered, Refuses}
 use Rattle.kfs_core.specs.declared.fault.CoreFault.TheVariants.{Device}
 
-pub stands_of : (b : Book) (live : Live) → ShowsLive b live → Stands (seen b.run) live.world.tree
+pub stands_of : (b : Book) (live : Live) → ShowsLive b live → Stands (seen b.tx) live.world.tree
 stands_of b live sh = record { tree = sh.tree; shows = sh.sees.tree; low = (let h = sh.low in omega arith) }
 
 -- what is answered where nothing changes
@@ -47,15 +47,15 @@ reply_of (Err e) = replies.Err e
 
 -- ---- stat
 
-pub stat_goes : (old : Book) (path : List ℕ) (r : Result Reply Errno) → old.down ≡ None → stat_in (seen old.run) path ≡ r → GoesOn old (lines.Call (calls.Stat path)) (answers.Reply (reply_of r)) old
+pub stat_goes : (old : Book) (path : List ℕ) (r : Result Reply Errno) → old.down ≡ None → stat_in (seen old.tx) path ≡ r → GoesOn old (lines.Call (calls.Stat path)) (answers.Reply (reply_of r)) old
 stat_goes old path r up is = idle_goes old (calls.Stat path) (reply_of r) up (λ w x. refl) refl (λ live sh.
-    ap (λ s. settled live.world (s >>= answered_by live.world)) (stat_same (seen old.run) live.world.tree (stands_of old live sh) path ∙ is) ∙ by live r)
+    ap (λ s. settled live.world (s >>= answered_by live.world)) (stat_same (seen old.tx) live.world.tree (stands_of old live sh) path ∙ is) ∙ by live r)
   where
     by : (live : Live) (r : Result Reply Errno) → settled live.world (r >>= answered_by live.world) ≡ record { world = live.world; reply = reply_of r }
     by live (Ok reply) = refl
     by live (Err e) = refl
 
-can_read : (w : World) (call : Call) (r : Run) (fault : DeviceFault) (new : Machine) → IsReady r → GetFault r fault new → can_fail w call Eio ≡ true → can_fail w call NoMem ≡ true → (cause : Cause) → cause ≡ cause_of fault → can_fail w call cause ≡ true
+can_read : (w : World) (call : Call) (r : Tx) (fault : DeviceFault) (new : Machine) → IsReady r → GetFault r fault new → can_fail w call Eio ≡ true → can_fail w call NoMem ≡ true → (cause : Cause) → cause ≡ cause_of fault → can_fail w call cause ≡ true
 can_read w call r NoTx new ready h eio nomem cause e = ap (can_fail w call) e ∙ nomem
 can_read w call r Busy new ready h eio nomem cause e = ap (can_fail w call) e ∙ nomem
 can_read w call r TxFull new ready h eio nomem cause e = ap (can_fail w call) e ∙ nomem
@@ -66,37 +66,37 @@ can_read w call r Failed new ready h eio nomem cause e = ap (can_fail w call) e 
 can_read w call r Memory new ready h eio nomem cause e = ap (can_fail w call) e ∙ nomem
 
 -- a call that only reads meets a fault
-pub read_falls : (old new : Book) (call : Call) (fault : DeviceFault) → ((w : World) → can_fail w call Eio ≡ true) → ((w : World) → can_fail w call NoMem ≡ true) → old.down ≡ None → new.down ≡ Some (cause_of fault) → limits_of new ≡ limits_of old → GetFault old.run fault new.run.machine
+pub read_falls : (old new : Book) (call : Call) (fault : DeviceFault) → ((w : World) → can_fail w call Eio ≡ true) → ((w : World) → can_fail w call NoMem ≡ true) → old.down ≡ None → new.down ≡ Some (cause_of fault) → limits_of new ≡ limits_of old → GetFault old.tx fault new.tx.machine
     → Refuses old call (Device fault) new
 read_falls old new call fault eio nomem up down same h = fall_goes old new call fault up down same (λ live sh. record {
-  stands = old.run.machine.stable;
-  fallen = get_falls old.run fault new.run.machine sh.light.ready h;
+  stands = old.tx.machine.stable;
+  fallen = get_falls old.tx fault new.tx.machine sh.light.ready h;
   stood = as_before sh.saved;
-  can = can_read live.world call old.run fault new.run.machine sh.light.ready h (eio live.world) (nomem live.world);
+  can = can_read live.world call old.tx fault new.tx.machine sh.light.ready h (eio live.world) (nomem live.world);
 })
 
 -- what the transaction sees may be saved
-pub live_saved : (b : Book) (live : Live) → ShowsLive b live → IsWhole (limits_of b) (seen b.run) live.world.tree live.past.count
+pub live_saved : (b : Book) (live : Live) → ShowsLive b live → IsWhole (limits_of b) (seen b.tx) live.world.tree live.past.count
 live_saved b live sh = record { tree = sh.tree; shows = sh.sees; next = sh.low; count = sh.few_changes; room = named_fits (limits_of b) live.world.tree sh.room }
 
 -- ---- sync
 
 -- a call that commits, whichever it is
 pub commit_goes : (old : Book) (call : Call) → old.down ≡ None → ((w : World) → weight w call (record { world = w; reply = replies.Done }) ≡ None) → commits call replies.Done ≡ true
-    → ((live : Live) → ShowsLive old live → step (limits_of old) (spare old) live.world call ≡ record { world = live.world; reply = replies.Done }) → GoesOn old (lines.Call call) (answers.Reply replies.Done) (record old { run = committed old.run })
-commit_goes old call up none does did = up_goes old (record old { run = committed old.run }) call replies.Done up (λ s live fits sh.
+    → ((live : Live) → ShowsLive old live → step (limits_of old) (spare old) live.world call ≡ record { world = live.world; reply = replies.Done }) → GoesOn old (lines.Call call) (answers.Reply replies.Done) (record old { tx = committed old.tx })
+commit_goes old call up none does did = up_goes old (record old { tx = committed old.tx }) call replies.Done up (λ s live fits sh.
     let is = did live sh in
     let same : live_after live call (step (limits_of old) (spare old) live.world call) ≡ live_with live live.world None true =
     ap (live_after live call) is
     ∙ ap (λ (o : Option ℕ). live_with live live.world o (is_boundary live.since call replies.Done o)) (none live.world)
     ∙ ap (λ (f : Bool). live_with live live.world None f) does in
-    answered old (record old { run = committed old.run }) s live call replies.Done (spare old) (spare_free old) sh (sym (ap (λ (a : After). a.reply) is)) (subst (ShowsLive (record old { run = committed old.run })) (sym same) (record {
+    answered old (record old { tx = committed old.tx }) s live call replies.Done (spare old) (spare_free old) sh (sym (ap (λ (a : After). a.reply) is)) (subst (ShowsLive (record old { tx = committed old.tx })) (sym same) (record {
       up = sh.up;
       tree = sh.tree;
       low = sh.low;
       few_changes = sh.few_changes;
-      sees = subst (λ m. Shows m live.world.tree live.past.count) (sym (seen_committed old.run sh.light.ready)) sh.sees;
-      saved = subst (λ t. IsWhole (limits_of old) (seen old.run) t live.past.count) (sym sh.newest) (live_saved old live sh);
+      sees = subst (λ m. Shows m live.world.tree live.past.count) (sym (seen_committed old.tx sh.light.ready)) sh.sees;
+      saved = subst (λ t. IsWhole (limits_of old) (seen old.tx) t live.past.count) (sym sh.newest) (live_saved old live sh);
       newest = sh.newest;
       behind = omega arith;
       desk = sh.desk;
@@ -105,7 +105,7 @@ commit_goes old call up none does did = up_goes old (record old { run = committe
       next = sh.next;
       changes = refl;
       weight = refl;
-      light = (commit_small old.run sh.light).1;
+      light = (commit_small old.tx sh.light).1;
       keys = sh.keys;
       pages = sh.pages;
       charged = sh.charged;
@@ -113,7 +113,7 @@ commit_goes old call up none does did = up_goes old (record old { run = committe
       room = sh.room;
     })) refl refl (record { most_cuts = refl; most_faults = refl; room_keys = refl; room_pages = refl }))
 
-pub sync_goes : (old : Book) → old.down ≡ None → GoesOn old (lines.Call calls.Sync) (answers.Reply replies.Done) (record old { run = committed old.run })
+pub sync_goes : (old : Book) → old.down ≡ None → GoesOn old (lines.Call calls.Sync) (answers.Reply replies.Done) (record old { tx = committed old.tx })
 sync_goes old up = commit_goes old calls.Sync up (λ w. refl) refl (λ live sh. refl)
 
 both_true : (a b : Bool) → (a && b) ≡ true → (a ≡ true) × (b ≡ true)
@@ -138,11 +138,11 @@ any_cause w call cut eio nomem Eio = eio
 any_cause w call cut eio nomem NoMem = nomem
 
 -- a call of any kind that meets a fault before it changed anything
-pub unread_falls : (old new : Book) (call : Call) (fault : DeviceFault) → ((w : World) (cause : Cause) → can_fail w call cause ≡ true) → old.down ≡ None → new.down ≡ Some (cause_of fault) → limits_of new ≡ limits_of old → GetFault old.run fault new.run.machine
+pub unread_falls : (old new : Book) (call : Call) (fault : DeviceFault) → ((w : World) (cause : Cause) → can_fail w call cause ≡ true) → old.down ≡ None → new.down ≡ Some (cause_of fault) → limits_of new ≡ limits_of old → GetFault old.tx fault new.tx.machine
     → Refuses old call (Device fault) new
 unread_falls old new call fault can up down same h = fall_goes old new call fault up down same (λ live sh. record {
-  stands = old.run.machine.stable;
-  fallen = get_falls old.run fault new.run.machine sh.light.ready h;
+  stands = old.tx.machine.stable;
+  fallen = get_falls old.tx fault new.tx.machine sh.light.ready h;
   stood = as_before sh.saved;
   can = λ cause e. can live.world cause;
 })
@@ -150,20 +150,20 @@ unread_falls old new call fault can up down same h = fall_goes old new call faul
 pub commit_falls_in : (old new : Book) (call : Call) (fault : DeviceFault) → old.down ≡ None → new.down ≡ Some (cause_of fault) → limits_of new ≡ limits_of old
     → ((w : World) → weight w call (record { world = w; reply = replies.Done }) ≡ None) → commits call replies.Done ≡ true → ((w : World) (cause : Cause) → can_fail w call cause ≡ true)
     → ((live : Live) → ShowsLive old live → step (limits_of old) (spare old) live.world call ≡ record { world = live.world; reply = replies.Done })
-    → CommitFault old.run fault new.run.machine → Refuses old call (Device fault) new
+    → CommitFault old.tx fault new.tx.machine → Refuses old call (Device fault) new
 commit_falls_in old new call fault up down same none does can did h = fall_goes old new call fault up down same (λ live sh.
     let is = did live sh in
-    elim (commit_falls old.run fault new.run.machine sh.light.ready (room_for (seen old.run) live.world.tree live.past.count (limits_of old) old.run.machine sh.tree sh.sees (let h = sh.low in omega arith) sh.room sh.keys sh.pages) h) [
-      | inl a ↦ record { stands = old.run.machine.stable; fallen = a; stood = as_before sh.saved; can = λ cause e. can live.world cause }
+    elim (commit_falls old.tx fault new.tx.machine sh.light.ready (room_for (seen old.tx) live.world.tree live.past.count (limits_of old) old.tx.machine sh.tree sh.sees (let h = sh.low in omega arith) sh.room sh.keys sh.pages) h) [
+      | inl a ↦ record { stands = old.tx.machine.stable; fallen = a; stood = as_before sh.saved; can = λ cause e. can live.world cause }
       | inr a ↦ record {
-        stands = seen old.run;
+        stands = seen old.tx;
         fallen = a;
-        stood = as_synced (ap (weight live.world call) is ∙ none live.world) (ap (λ (a : After). is_boundary live.since call a.reply None) is ∙ does) (subst (λ t. IsWhole (limits_of old) (seen old.run) t live.past.count) (sym sh.newest) (live_saved old live sh));
+        stood = as_synced (ap (weight live.world call) is ∙ none live.world) (ap (λ (a : After). is_boundary live.since call a.reply None) is ∙ does) (subst (λ t. IsWhole (limits_of old) (seen old.tx) t live.past.count) (sym sh.newest) (live_saved old live sh));
         can = λ cause e. can live.world cause;
       }
     ])
 
-pub sync_falls : (old new : Book) (fault : DeviceFault) → old.down ≡ None → new.down ≡ Some (cause_of fault) → limits_of new ≡ limits_of old → CommitFault old.run fault new.run.machine → Refuses old calls.Sync (Device fault) new
+pub sync_falls : (old new : Book) (fault : DeviceFault) → old.down ≡ None → new.down ≡ Some (cause_of fault) → limits_of new ≡ limits_of old → CommitFault old.tx fault new.tx.machine → Refuses old calls.Sync (Device fault) new
 sync_falls old new fault up down same h = commit_falls_in old new calls.Sync fault up down same (λ w. refl) refl (λ w cause. any_cause w calls.Sync refl refl refl cause) (λ live sh. refl) h
 
 pub none_of : (o : Option Cause) → false ≡ is_some o → o ≡ None
@@ -172,12 +172,12 @@ none_of (Some c) e = absurd (cc)
 
 -- ---- list
 
-pub list_goes : (old : Book) (path : List ℕ) (r : Result Reply Errno) → old.down ≡ None → old.keys < 2 ^ 32 → list_in (seen old.run) path ≡ r → GoesOn old (lines.Call (calls.List path)) (answers.Reply (reply_of r)) old
+pub list_goes : (old : Book) (path : List ℕ) (r : Result Reply Errno) → old.down ≡ None → old.keys < 2 ^ 32 → list_in (seen old.tx) path ≡ r → GoesOn old (lines.Call (calls.List path)) (answers.Reply (reply_of r)) old
 list_goes old path r up small is = idle_goes old (calls.List path) (reply_of r) up (λ w x. refl) refl (λ live sh.
     let h = both_true (nat_le (charge live.world.tree) old.keys) (nat_le (chunks live.world.tree) old.pages) sh.room in
     let le : charge live.world.tree ≤ old.keys = grind (arith, nat_tests, h.0) in
-    let few = few_objects (seen old.run) live.world.tree sh.tree sh.sees.tree (let h = sh.low in omega arith) in
-    ap (λ s. settled live.world (s >>= answered_by live.world)) (list_same (seen old.run) live.world.tree (stands_of old live sh) (omega arith) path ∙ is) ∙ by live r)
+    let few = few_objects (seen old.tx) live.world.tree sh.tree sh.sees.tree (let h = sh.low in omega arith) in
+    ap (λ s. settled live.world (s >>= answered_by live.world)) (list_same (seen old.tx) live.world.tree (stands_of old live sh) (omega arith) path ∙ is) ∙ by live r)
   where
     by : (live : Live) (r : Result Reply Errno) → settled live.world (r >>= answered_by live.world) ≡ record { world = live.world; reply = reply_of r }
     by live (Ok reply) = refl

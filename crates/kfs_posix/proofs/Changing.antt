@@ -9,7 +9,7 @@ use Rattle.kfs_model.specs.Step.{World}
 use Rattle.kfs_model.specs.Life.{Live, tree_at, with_tree, live_with}
 use Rattle.kfs_shows.specs.Shows.{Shows, ShowsTree}
 use Rattle.kfs_shows.proofs.Fresh.{with_super}
-use Rattle.kfs_tx.specs.Run.{Run, IsReady, SameBounds, seen, changed_keys, committed, counted, one_change, is_full}
+use Rattle.kfs_tx.specs.Tx.{Tx, IsReady, SameBounds, seen, changed_keys, committed, counted, one_change, is_full}
 use Rattle.kfs_tx.proofs.Seeing.{ready_put, seen_put, keys_put, ready_committed, seen_committed, keys_committed}
 use Rattle.kfs_posix.specs.Book.{Book, limits_of}
 use Rattle.kfs_posix.specs.Opens.{Opens, desk_of}
@@ -19,30 +19,30 @@ use Rattle.kfs_posix.proofs.Rooms.{named_fits}
 use Rattle.kfs_posix.proofs.Past.{older, newest}
 
 -- the objects of the change are put, and all else of the session is as before
-pub record IsPut (b : Book) (r : Run) (t : Tree) (n next : ℕ) : Type 0 where
+pub record IsPut (b : Book) (r : Tx) (t : Tree) (n next : ℕ) : Type 0 where
   pub ready : IsReady r
   pub tree : IsTree t
   pub shows : ShowsTree (seen r) t
   pub low : t.next < 2 ^ 63
   pub few_changes : r.changes + 1 < 2 ^ 63
   pub next_is : next ≡ t.next
-  pub changes : r.changes ≡ b.run.changes
-  pub since : r.since ≡ b.run.since
-  pub weight : r.weight ≡ b.run.weight
-  pub stable : r.machine.stable ≡ b.run.machine.stable
-  pub bounds : SameBounds b.run.machine r.machine
-  pub few : changed_keys r + 1 ≤ b.run.weight + n
+  pub changes : r.changes ≡ b.tx.changes
+  pub since : r.since ≡ b.tx.since
+  pub weight : r.weight ≡ b.tx.weight
+  pub stable : r.machine.stable ≡ b.tx.machine.stable
+  pub bounds : SameBounds b.tx.machine r.machine
+  pub few : changed_keys r + 1 ≤ b.tx.weight + n
   pub room : has_room (limits_of b) t ≡ true
 
 or_false : (a b : Bool) → (a || b) ≡ false → (a ≡ false) × (b ≡ false)
 or_false true b e = absurd (cc)
 or_false false b e = (refl, e)
 
-module _ (b : Book) (live : Live) (sh : ShowsLive b live) (r : Run) (t : Tree) (n next charged chunked : ℕ) (put : IsPut b r t n next) (charge_is : charged ≡ charge t) (chunks_is : chunked ≡ chunks t) (files : Opens) (holds : Holds files t) where
+module _ (b : Book) (live : Live) (sh : ShowsLive b live) (r : Tx) (t : Tree) (n next charged chunked : ℕ) (put : IsPut b r t n next) (charge_is : charged ≡ charge t) (chunks_is : chunked ≡ chunks t) (files : Opens) (holds : Holds files t) where
   abbrev world : World
   world = record { tree = t; desk = desk_of files }
 
-  abbrev done : Run
+  abbrev done : Tx
   done = counted r n next
 
   ready : IsReady done
@@ -61,14 +61,14 @@ module _ (b : Book) (live : Live) (sh : ShowsLive b live) (r : Run) (t : Tree) (
   few_keys : changed_keys done ≤ changed_keys r + 1
   few_keys = keys_put r super_key (super_value (r.changes + 1) next) put.ready
 
-  between : is_full (r.since + 1) (r.weight + n) ≡ false → ShowsLive (record b { run = done; charge = charged; chunks = chunked; files = files }) (live_with live world (Some n) false)
+  between : is_full (r.since + 1) (r.weight + n) ≡ false → ShowsLive (record b { tx = done; charge = charged; chunks = chunked; files = files }) (live_with live world (Some n) false)
   between e = record {
     up = sh.up;
     tree = put.tree;
     low = put.low;
     few_changes = let e = count_is in let h = put.few_changes in omega arith;
     sees = sees;
-    saved = subst (λ m. IsWhole (limits_of b) m (tree_at (with_tree live.past t) live.mark) live.mark) (sym put.stable) (subst (λ u. IsWhole (limits_of b) b.run.machine.stable u live.mark) (sym (older live.past t live.mark sh.behind)) sh.saved);
+    saved = subst (λ m. IsWhole (limits_of b) m (tree_at (with_tree live.past t) live.mark) live.mark) (sym put.stable) (subst (λ u. IsWhole (limits_of b) b.tx.machine.stable u live.mark) (sym (older live.past t live.mark sh.behind)) sh.saved);
     newest = newest live.past t;
     behind = let h = sh.behind in omega arith;
     desk = refl;
@@ -89,7 +89,7 @@ module _ (b : Book) (live : Live) (sh : ShowsLive b live) (r : Run) (t : Tree) (
     room = put.room;
   }
 
-  at_boundary : ShowsLive (record b { run = committed done; charge = charged; chunks = chunked; files = files }) (live_with live world (Some n) true)
+  at_boundary : ShowsLive (record b { tx = committed done; charge = charged; chunks = chunked; files = files }) (live_with live world (Some n) true)
   at_boundary = record {
     up = sh.up;
     tree = put.tree;
@@ -113,9 +113,9 @@ module _ (b : Book) (live : Live) (sh : ShowsLive b live) (r : Run) (t : Tree) (
     room = put.room;
   }
 
-  pub change_shown : ShowsLive (record b { run = one_change r n next; charge = charged; chunks = chunked; files = files }) (live_with live world (Some n) (is_full (b.run.since + 1) (b.run.weight + n)))
-  change_shown = subst (λ f. ShowsLive (record b { run = one_change r n next; charge = charged; chunks = chunked; files = files }) (live_with live world (Some n) f)) (λ i. is_full (put.since i + 1) (put.weight i + n)) (by (is_full (r.since + 1) (r.weight + n)) refl)
+  pub change_shown : ShowsLive (record b { tx = one_change r n next; charge = charged; chunks = chunked; files = files }) (live_with live world (Some n) (is_full (b.tx.since + 1) (b.tx.weight + n)))
+  change_shown = subst (λ f. ShowsLive (record b { tx = one_change r n next; charge = charged; chunks = chunked; files = files }) (live_with live world (Some n) f)) (λ i. is_full (put.since i + 1) (put.weight i + n)) (by (is_full (r.since + 1) (r.weight + n)) refl)
     where
-      by : (f : Bool) → is_full (r.since + 1) (r.weight + n) ≡ f → ShowsLive (record b { run = cond f (committed done) done; charge = charged; chunks = chunked; files = files }) (live_with live world (Some n) f)
+      by : (f : Bool) → is_full (r.since + 1) (r.weight + n) ≡ f → ShowsLive (record b { tx = cond f (committed done) done; charge = charged; chunks = chunked; files = files }) (live_with live world (Some n) f)
       by true e = at_boundary
       by false e = between e

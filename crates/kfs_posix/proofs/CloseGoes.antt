@@ -32,7 +32,7 @@ use Rattle.kfs_laws.specs.Worlds.{IsDesk}
 use Rattle.kfs_laws.proofs.Lookups.{decide_number, number_apart, number_tied}
 use Rattle.kfs_laws.proofs.Desks.{closing_is}
 use Rattle.kfs_shows.proofs.Sweeping.{nameless_test, test_nameless}
-use Rattle.kfs_tx.specs.Run.{Run, Caused, GetFault, seen, deleted_in, one_change}
+use Rattle.kfs_tx.specs.Tx.{Tx, Caused, GetFault, seen, deleted_in, one_change}
 use Rattle.kfs_file.specs.Contents.{pending_of}
 use Rattle.kfs_core.specs.Flat.{inode_in}
 use Rattle.kfs_core.specs.Removing.{chunks_for, Goes, ReleaseFault, release_at}
@@ -136,11 +136,11 @@ same_weight : (fd : ℕ) (w : World) (desk : Desk) (reply : Reply) → weight w 
 same_weight fd w desk reply = let e : nat_lt (length w.tree.nodes) (length w.tree.nodes) ≡ false = grind (arith, nat_tests) in ap (λ b. cond {A = Option ℕ} b (Some (4 + (gone w.tree w.tree))) None) e
 
 -- only the pending changes are others
-pub released_same : (r : Run) (n size : ℕ) (mid : Run) → Goes r n size mid → deleted_in mid (orphan_key n) ≡ pending_of (deleted_in mid (orphan_key n)) r
+pub released_same : (r : Tx) (n size : ℕ) (mid : Tx) → Goes r n size mid → deleted_in mid (orphan_key n) ≡ pending_of (deleted_in mid (orphan_key n)) r
 released_same r n size mid goes = (follows_deleted r mid (orphan_key n) (chunks_for size + 1) (goes_follows r mid n size goes)).same
 
 -- the fault of a release has a cause from outside
-pub release_caused : (r : Run) (n size : ℕ) (fault : DeviceFault) (new : Machine) → ReleaseFault r n size fault new → Caused r.machine fault new
+pub release_caused : (r : Tx) (n size : ℕ) (fault : DeviceFault) (new : Machine) → ReleaseFault r n size fault new → Caused r.machine fault new
 release_caused r n size fault new (inl h) = h.cause
 release_caused r n size fault new (inr (mid, goes, h)) = change_caused r (deleted_in mid (orphan_key n)) (4 + chunks_for size) mid.next fault new (released_same r n size mid goes) h
 
@@ -199,7 +199,7 @@ module _ (old : Book) (fd : ℕ) (up : old.down ≡ None) where
           by Eio = ap not uses
           by NoMem = ap not uses
 
-      planned : (size : ℕ) → release_at (inode_in (seen old.run) it.1.it.node) ≡ Ok size → (mid : Run) → Goes old.run it.1.it.node size mid → (live : Live) → ShowsLive old live
+      planned : (size : ℕ) → release_at (inode_in (seen old.tx) it.1.it.node) ≡ Ok size → (mid : Tx) → Goes old.tx it.1.it.node size mid → (live : Live) → ShowsLive old live
           → Planned old (deleted_in mid (orphan_key it.1.it.node)) call (closed old.files fd it.0) (4 + chunks_for size) (old.charge - (2 + chunks_for size)) (old.chunks - chunks_for size) live
       planned size judged mid goes live sh =
           let t = live.world.tree in
@@ -207,32 +207,32 @@ module _ (old : Book) (fd : ℕ) (up : old.down ≡ None) where
           let n = it.1.it.node in
           let known = knows t o fd it sh.holds has in
           let steps : (d : ℕ) → step (limits_of old) d live.world call ≡ record { world = swept (world_in t (closed o fd it.0)); reply = replies.Done } = λ d. desk_step live sh d ∙ close_steps t o fd it sh.holds has (limits_of old) d in
-          let plan = release_plan old.run sh.light.ready (limits_of old) live.world (world_shown old live sh) (let h = sh.low in omega arith) sh.room old.charge old.chunks sh.charged sh.chunked fd (desk_of (closed o fd it.0)) steps n known.node known.there
+          let plan = release_plan old.tx sh.light.ready (limits_of old) live.world (world_shown old live sh) (let h = sh.low in omega arith) sh.room old.charge old.chunks sh.charged sh.chunked fd (desk_of (closed o fd it.0)) steps n known.node known.there
           (test_nameless t n (sym known.named ∙ no_name))
           (λ k node apart there none. others_open t o fd it sh.holds has k apart (sh.holds.kept k node there (nameless_test t sh.tree k none))) shut size judged mid goes in
           let tree_is : (swept (world_in t (closed o fd it.0))).tree ≡ plan.world.tree = ap (λ (a : After). a.world.tree) (sym (steps 0) ∙ plan.steps 0) in
           record { plan = plan; holds = subst (Holds (closed o fd it.0)) tree_is (left_holds t o fd it sh.holds has) }
 
-      module _ (count : old.run.changes + 1 < 2 ^ 63) where
-        pub release_goes : (size : ℕ) → release_at (inode_in (seen old.run) it.1.it.node) ≡ Ok size → (mid : Run) → Goes old.run it.1.it.node size mid
+      module _ (count : old.tx.changes + 1 < 2 ^ 63) where
+        pub release_goes : (size : ℕ) → release_at (inode_in (seen old.tx) it.1.it.node) ≡ Ok size → (mid : Tx) → Goes old.tx it.1.it.node size mid
             → GoesOn old (lines.Call call) (answers.Reply replies.Done)
-            (record old { run = one_change (deleted_in mid (orphan_key it.1.it.node)) (4 + chunks_for size) mid.next; charge = old.charge - (2 + chunks_for size); chunks = old.chunks - chunks_for size; files = closed old.files fd it.0 })
+            (record old { tx = one_change (deleted_in mid (orphan_key it.1.it.node)) (4 + chunks_for size) mid.next; charge = old.charge - (2 + chunks_for size); chunks = old.chunks - chunks_for size; files = closed old.files fd it.0 })
         release_goes size judged mid goes =
-            planned_goes old (deleted_in mid (orphan_key it.1.it.node)) (released_same old.run it.1.it.node size mid goes) call (closed old.files fd it.0) (4 + chunks_for size) (old.charge - (2 + chunks_for size)) (old.chunks - chunks_for size) count up (planned size judged mid goes)
+            planned_goes old (deleted_in mid (orphan_key it.1.it.node)) (released_same old.tx it.1.it.node size mid goes) call (closed old.files fd it.0) (4 + chunks_for size) (old.charge - (2 + chunks_for size)) (old.chunks - chunks_for size) count up (planned size judged mid goes)
 
-        pub release_falls : (new : Book) (size : ℕ) (fault : DeviceFault) → release_at (inode_in (seen old.run) it.1.it.node) ≡ Ok size → new.down ≡ Some (cause_of fault) → limits_of new ≡ limits_of old → ReleaseFault old.run it.1.it.node size fault new.run.machine
+        pub release_falls : (new : Book) (size : ℕ) (fault : DeviceFault) → release_at (inode_in (seen old.tx) it.1.it.node) ≡ Ok size → new.down ≡ Some (cause_of fault) → limits_of new ≡ limits_of old → ReleaseFault old.tx it.1.it.node size fault new.tx.machine
             → Refuses old call (Device fault) new
         release_falls new size fault judged down limits (inl h) = early_falls old new call (2 + chunks_for size) fault up down limits can (λ live sh.
             let known = knows live.world.tree old.files fd it sh.holds has in
-            few_chunks live.world.tree sh.tree it.1.it.node known.node known.there size (ok_is size (kind_of known.node).1 (sym judged ∙ release_finds (seen old.run) live.world.tree (stands_of old live sh) it.1.it.node known.node known.there))) h
+            few_chunks live.world.tree sh.tree it.1.it.node known.node known.there size (ok_is size (kind_of known.node).1 (sym judged ∙ release_finds (seen old.tx) live.world.tree (stands_of old live sh) it.1.it.node known.node known.there))) h
         release_falls new size fault judged down limits (inr (mid, goes, h)) =
-            planned_falls old (deleted_in mid (orphan_key it.1.it.node)) (released_same old.run it.1.it.node size mid goes) call (closed old.files fd it.0) (4 + chunks_for size) (old.charge - (2 + chunks_for size)) (old.chunks - chunks_for size) count up (planned size judged mid goes) new fault down limits can h
+            planned_falls old (deleted_in mid (orphan_key it.1.it.node)) (released_same old.tx it.1.it.node size mid goes) call (closed old.files fd it.0) (4 + chunks_for size) (old.charge - (2 + chunks_for size)) (old.chunks - chunks_for size) count up (planned size judged mid goes) new fault down limits can h
 
-      pub release_unread : (new : Book) (fault : DeviceFault) → new.down ≡ Some (cause_of fault) → limits_of new ≡ limits_of old → GetFault old.run fault new.run.machine → Refuses old call (Device fault) new
+      pub release_unread : (new : Book) (fault : DeviceFault) → new.down ≡ Some (cause_of fault) → limits_of new ≡ limits_of old → GetFault old.tx fault new.tx.machine → Refuses old call (Device fault) new
       release_unread new fault down limits h = unread_at old new call fault up down limits can h
 
       -- what is open is there, so it is released without an error
-      pub release_never : (new : Book) (e : Errno) (reply : Reply) → release_at (inode_in (seen old.run) it.1.it.node) ≡ Err e → GoesOn old (lines.Call call) (answers.Reply reply) new
+      pub release_never : (new : Book) (e : Errno) (reply : Reply) → release_at (inode_in (seen old.tx) it.1.it.node) ≡ Err e → GoesOn old (lines.Call call) (answers.Reply reply) new
       release_never new e reply judged = up_goes old new call reply up (λ s live showing sh.
           let known = knows live.world.tree old.files fd it sh.holds has in
-          absurd (let bad : Ok (kind_of known.node).1 ≡ Err e = sym (release_finds (seen old.run) live.world.tree (stands_of old live sh) it.1.it.node known.node known.there) ∙ judged in cc))
+          absurd (let bad : Ok (kind_of known.node).1 ≡ Err e = sym (release_finds (seen old.tx) live.world.tree (stands_of old live sh) it.1.it.node known.node known.there) ∙ judged in cc))

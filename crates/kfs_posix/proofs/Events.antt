@@ -6,9 +6,9 @@ use Rattle.kfs_path.specs.declared.call.Cause.{Cause}
 use Rattle.kfs_path.specs.declared.call.Reply.{Reply}
 use Rattle.kfs_model.specs.declared.Line.TheVariants as lines
 use Rattle.kfs_model.specs.declared.Answer.TheVariants as answers
-use Rattle.kfs_tx.specs.Run.{Run, age_of}
+use Rattle.kfs_tx.specs.Tx.{Tx, age_of}
 use Rattle.kfs_core.specs.declared.fault.CoreFault.{CoreFault}
-use Rattle.kfs_core.specs.Core.{KfsState, run_in}
+use Rattle.kfs_core.specs.Core.{KfsState, tx_in}
 use Rattle.kfs_posix.specs.Opens.{Opens}
 use Rattle.kfs_posix.specs.Book.{Book, SessionState, state_of, book_of, running_in}
 use Rattle.kfs_posix.specs.Answering.{Counts, KeepsCause, refusal, down_after, IsAnswerable}
@@ -20,7 +20,7 @@ use Rattle.kfs_posix.proofs.Shown.{answers_it}
 -- the call is an event of a life, and its reply tells which counts rose
 pub record Happens (old : SessionState) (call : Call) (reply : Reply) (k1 : KfsState) (o1 : Opens) (d1 : Option Cause) : Type 0 where
   pub goes : GoesOn old.book (lines.Call call) (answers.Reply reply) (book_of k1 o1 d1)
-  pub counts : Counts old.book.run.machine reply (run_in k1).machine
+  pub counts : Counts old.book.tx.machine reply (tx_in k1).machine
   pub keeps : KeepsCause old.book reply (book_of k1 o1 d1)
 
 -- the same of a call that failed; the device refused nothing
@@ -28,7 +28,7 @@ pub record Fails (old : SessionState) (call : Call) (fault : CoreFault) (reply :
   pub happens : Happens old call reply k1 o1 d1
   pub answerable : IsShowing old.book → IsAnswerable fault
 
-pub same_machine : (r : Run) → SameMachine r.machine r.machine
+pub same_machine : (r : Tx) → SameMachine r.machine r.machine
 same_machine r = record { up = refl; cuts = refl; faults = refl }
 
 -- a reply that is neither an error nor down
@@ -43,39 +43,39 @@ kept_up reply (plain c k) = k
 
 module _ (old : SessionState) (k0 k1 : KfsState) (o o1 : Opens) (d : Option Cause) (is : state_of k0 o d ≡ old) (up : d ≡ None) (call : Call) where
   -- answered
-  pub answered : (reply : Reply) → IsPlain reply → (run : Run) (charge chunks : ℕ) (files : Opens) → SameMachine (run_in k0).machine run.machine → run_in k1 ≡ run → k1.charge ≡ charge → k1.chunks ≡ chunks → k1.keys ≡ k0.keys → k1.pages ≡ k0.pages → o1 ≡ files
-      → GoesOn (book_of k0 o d) (lines.Call call) (answers.Reply reply) (record (book_of k0 o d) { run = run; charge = charge; chunks = chunks; files = files }) → Happens old call reply k1 o1 d
-  answered reply is_plain run charge chunks files same run_is charge_is chunks_is keys pages files_is goes = record {
+  pub answered : (reply : Reply) → IsPlain reply → (tx : Tx) (charge chunks : ℕ) (files : Opens) → SameMachine (tx_in k0).machine tx.machine → tx_in k1 ≡ tx → k1.charge ≡ charge → k1.chunks ≡ chunks → k1.keys ≡ k0.keys → k1.pages ≡ k0.pages → o1 ≡ files
+      → GoesOn (book_of k0 o d) (lines.Call call) (answers.Reply reply) (record (book_of k0 o d) { tx = tx; charge = charge; chunks = chunks; files = files }) → Happens old call reply k1 o1 d
+  answered reply is_plain tx charge chunks files same run_is charge_is chunks_is keys pages files_is goes = record {
     goes = subst (λ (s : SessionState). GoesOn s.book (lines.Call call) (answers.Reply reply) (book_of k1 o1 d)) is
         (subst (λ (c : Book). GoesOn (book_of k0 o d) (lines.Call call) (answers.Reply reply) c)
-        (λ i. record { run = sym run_is i; keys = sym keys i; pages = sym pages i; charge = sym charge_is i; chunks = sym chunks_is i; files = sym files_is i; down = d }) goes);
-    counts = subst (λ (s : SessionState). Counts s.book.run.machine reply (run_in k1).machine) is
-        (counted reply is_plain (run_in k0).machine (run_in k1).machine (ap (λ (r : Run). r.machine.cuts) run_is ∙ same.cuts, ap (λ (r : Run). r.machine.faults) run_is ∙ same.faults));
+        (λ i. record { tx = sym run_is i; keys = sym keys i; pages = sym pages i; charge = sym charge_is i; chunks = sym chunks_is i; files = sym files_is i; down = d }) goes);
+    counts = subst (λ (s : SessionState). Counts s.book.tx.machine reply (tx_in k1).machine) is
+        (counted reply is_plain (tx_in k0).machine (tx_in k1).machine (ap (λ (r : Tx). r.machine.cuts) run_is ∙ same.cuts, ap (λ (r : Tx). r.machine.faults) run_is ∙ same.faults));
     keeps = subst (λ (s : SessionState). KeepsCause s.book reply (book_of k1 o1 d)) is (kept_up reply is_plain (book_of k0 o d) (book_of k1 o1 d) up up);
   }
 
   -- refused, or down
   pub failed : (fault : CoreFault) (reply : Reply) (d1 : Option Cause) → reply ≡ refusal fault → d1 ≡ down_after d fault → k1.charge ≡ k0.charge → k1.chunks ≡ k0.chunks → k1.keys ≡ k0.keys → k1.pages ≡ k0.pages → o1 ≡ o
-      → Counts (run_in k0).machine (refusal fault) (run_in k1).machine
-      → Refuses (book_of k0 o d) call fault (record (book_of k0 o d) { run = run_in k1; down = down_after d fault }) → Fails old call fault reply k1 o1 d1
+      → Counts (tx_in k0).machine (refusal fault) (tx_in k1).machine
+      → Refuses (book_of k0 o d) call fault (record (book_of k0 o d) { tx = tx_in k1; down = down_after d fault }) → Fails old call fault reply k1 o1 d1
   failed fault reply d1 reply_is down charge_is chunks_is keys pages files_is counts refuses = record {
     happens = record {
       goes = subst (λ (s : SessionState). GoesOn s.book (lines.Call call) (answers.Reply reply) (book_of k1 o1 d1)) is
           (subst (λ r. GoesOn (book_of k0 o d) (lines.Call call) (answers.Reply r) (book_of k1 o1 d1)) (sym reply_is)
           (subst (λ (c : Book). GoesOn (book_of k0 o d) (lines.Call call) (answers.Reply (refusal fault)) c)
-          (λ i. record { run = run_in k1; keys = sym keys i; pages = sym pages i; charge = sym charge_is i; chunks = sym chunks_is i; files = sym files_is i; down = sym down i }) refuses.goes));
-      counts = subst (λ (s : SessionState). Counts s.book.run.machine reply (run_in k1).machine) is (subst (λ r. Counts (run_in k0).machine r (run_in k1).machine) (sym reply_is) counts);
+          (λ i. record { tx = tx_in k1; keys = sym keys i; pages = sym pages i; charge = sym charge_is i; chunks = sym chunks_is i; files = sym files_is i; down = sym down i }) refuses.goes));
+      counts = subst (λ (s : SessionState). Counts s.book.tx.machine reply (tx_in k1).machine) is (subst (λ r. Counts (tx_in k0).machine r (tx_in k1).machine) (sym reply_is) counts);
       keeps = subst (λ (s : SessionState). KeepsCause s.book reply (book_of k1 o1 d1)) is
           (subst (λ r. KeepsCause (book_of k0 o d) r (book_of k1 o1 d1)) (sym reply_is) (refused_keeps (book_of k0 o d) (book_of k1 o1 d1) fault up down));
     };
-    answerable = answers_it old k0 o d is up call fault (record (book_of k0 o d) { run = run_in k1; down = down_after d fault }) refuses;
+    answerable = answers_it old k0 o d is up call fault (record (book_of k0 o d) { tx = tx_in k1; down = down_after d fault }) refuses;
   }
 
 -- ---- the next numbers are low enough
 
 module _ (old : SessionState) (k0 : KfsState) (o : Opens) (d : Option Cause) (is : state_of k0 o d ≡ old) (age : age_of (running_in old) < 2 ^ 63 - 2 ^ 40) where
-  pub low_next : (run_in k0).next + 1 < 2 ^ 63
+  pub low_next : (tx_in k0).next + 1 < 2 ^ 63
   low_next = let a : age_of (running_in (state_of k0 o d)) < 2 ^ 63 - 2 ^ 40 = subst (λ s. age_of (running_in s) < 2 ^ 63 - 2 ^ 40) (sym is) age in omega arith
 
-  pub low_count : (run_in k0).changes + 1 < 2 ^ 63
+  pub low_count : (tx_in k0).changes + 1 < 2 ^ 63
   low_count = let a : age_of (running_in (state_of k0 o d)) < 2 ^ 63 - 2 ^ 40 = subst (λ s. age_of (running_in s) < 2 ^ 63 - 2 ^ 40) (sym is) age in omega arith

@@ -13,10 +13,10 @@ use Rattle.kfs_model.specs.declared.Line.TheVariants as lines
 use Rattle.kfs_model.specs.declared.Answer.TheVariants as answers
 use Rattle.kfs_model.specs.Step.{World}
 use Rattle.kfs_model.specs.Life.{can_fail}
-use Rattle.kfs_tx.specs.Run.{Run, Caused, CausedAlone, committed, is_full, counted}
+use Rattle.kfs_tx.specs.Tx.{Tx, Caused, CausedAlone, committed, is_full, counted}
 use Rattle.kfs_core.specs.declared.fault.CoreFault.{CoreFault}
 use Rattle.kfs_core.specs.declared.fault.CoreFault.TheVariants.{No, Device}
-use Rattle.kfs_core.specs.Core.{KfsState, run_in, Stays}
+use Rattle.kfs_core.specs.Core.{KfsState, tx_in, Stays}
 use Rattle.kfs_core.specs.Flat.{Where}
 use Rattle.kfs_core.specs.Gives.{Fails, LeavesAtFault, CommitFails}
 use Rattle.kfs_core.specs.Making.{AddFault, AddFails, added, with_entry, parent_of}
@@ -54,22 +54,22 @@ same_counts : (m new : Machine) → new ≡ m → (new.cuts ≡ m.cuts) × (new.
 same_counts m new e = (ap (λ (x : Machine). x.cuts) e, ap (λ (x : Machine). x.faults) e)
 
 -- a call that only reads
-pub read_counts : (old new : Run) (fault : CoreFault) → old.machine.up ≡ true → LeavesAtFault old fault new → Counts old.machine (refusal fault) new.machine
-read_counts old new (No e) up h = same_counts old.machine new.machine (ap (λ (r : Run). r.machine) h)
+pub read_counts : (old new : Tx) (fault : CoreFault) → old.machine.up ≡ true → LeavesAtFault old fault new → Counts old.machine (refusal fault) new.machine
+read_counts old new (No e) up h = same_counts old.machine new.machine (ap (λ (r : Tx). r.machine) h)
 read_counts old new (Device f) up h = caused_counts old.machine f new.machine up (alone_caused old.machine f new.machine h.1)
 
-pub commit_counts : (old new : Run) (fault : CoreFault) → old.machine.up ≡ true → CommitFails old new fault → Counts old.machine (refusal fault) new.machine
+pub commit_counts : (old new : Tx) (fault : CoreFault) → old.machine.up ≡ true → CommitFails old new fault → Counts old.machine (refusal fault) new.machine
 commit_counts old new (No e) up h = absurd h
 commit_counts old new (Device f) up h = caused_counts old.machine f new.machine up h.1
 
-pub make_caused : (r : Run) (kind parent : ℕ) (name : List ℕ) (fault : DeviceFault) (new : Machine) → AddFault r kind parent name fault new → Caused r.machine fault new
+pub make_caused : (r : Tx) (kind parent : ℕ) (name : List ℕ) (fault : DeviceFault) (new : Machine) → AddFault r kind parent name fault new → Caused r.machine fault new
 make_caused r kind parent name fault new (inl h) = h.1
 make_caused r kind parent name fault new (inr (inl h)) = h.1
 make_caused r kind parent name fault new (inr (inr (inl h))) = h.1
 make_caused r kind parent name fault new (inr (inr (inr h))) = h.1.1
 
-pub add_counts : (old new : Run) (kind : ℕ) (judged : Result Where Errno) (fault : CoreFault) → old.machine.up ≡ true → AddFails old kind judged fault new → Counts old.machine (refusal fault) new.machine
-add_counts old new kind judged (No e) up h = same_counts old.machine new.machine (ap (λ (r : Run). r.machine) h.1)
+pub add_counts : (old new : Tx) (kind : ℕ) (judged : Result Where Errno) (fault : CoreFault) → old.machine.up ≡ true → AddFails old kind judged fault new → Counts old.machine (refusal fault) new.machine
+add_counts old new kind judged (No e) up h = same_counts old.machine new.machine (ap (λ (r : Tx). r.machine) h.1)
 add_counts old new kind judged (Device f) up (inl h) = caused_counts old.machine f new.machine up (alone_caused old.machine f new.machine h.1)
 add_counts old new kind judged (Device f) up (inr h) = caused_counts old.machine f new.machine up (make_caused old kind (parent_of h.0) h.0.name f new.machine h.2)
 
@@ -79,16 +79,16 @@ pub refused_keeps : (old new : Book) (fault : CoreFault) → old.down ≡ None �
 refused_keeps old new (No e) up h = (up, h ∙ up)
 refused_keeps old new (Device f) up h = (up, h)
 
--- what a boundary leaves of a run's device
+-- what a boundary leaves of a tx's device
 pub record SameMachine (old new : Machine) : Type 0 where
   pub up : new.up ≡ old.up
   pub cuts : new.cuts ≡ old.cuts
   pub faults : new.faults ≡ old.faults
 
-pub added_same : (r : Run) (kind parent : ℕ) (name : List ℕ) → SameMachine r.machine (added r kind parent name).machine
+pub added_same : (r : Tx) (kind parent : ℕ) (name : List ℕ) → SameMachine r.machine (added r kind parent name).machine
 added_same r kind parent name = by (counted (with_entry r kind parent name) 4 (r.next + 1)) (is_full (r.since + 1) (r.weight + 4)) refl refl refl
   where
-    by : (s : Run) (b : Bool) → s.machine.up ≡ r.machine.up → s.machine.cuts ≡ r.machine.cuts → s.machine.faults ≡ r.machine.faults → SameMachine r.machine (cond b (committed s) s).machine
+    by : (s : Tx) (b : Bool) → s.machine.up ≡ r.machine.up → s.machine.cuts ≡ r.machine.cuts → s.machine.faults ≡ r.machine.faults → SameMachine r.machine (cond b (committed s) s).machine
     by s true a b c = record { up = a; cuts = b; faults = c }
     by s false a b c = record { up = a; cuts = b; faults = c }
 
@@ -98,20 +98,20 @@ book_is : (old : SessionState) (kfs : KfsState) (o : Opens) (d : Option Cause) �
 book_is old kfs o d e = ap (λ (s : SessionState). s.book) e
 
 -- the running transaction alone may have changed
-pub stays_book : (k0 k1 : KfsState) (o : Opens) (d : Option Cause) → Stays k0 k1 → book_of k1 o d ≡ record (book_of k0 o d) { run = run_in k1 }
+pub stays_book : (k0 k1 : KfsState) (o : Opens) (d : Option Cause) → Stays k0 k1 → book_of k1 o d ≡ record (book_of k0 o d) { tx = tx_in k1 }
 stays_book k0 k1 o d e = ap (λ (k : KfsState). book_of k o d) e
 
 -- answered by an error or the call's fault, where it only reads
-pub read_refused : (old : Book) (call : Call) (def : Result Reply Errno) (fault : CoreFault) (run : Run) → old.down ≡ None → Fails fault def → LeavesAtFault old.run fault run
+pub read_refused : (old : Book) (call : Call) (def : Result Reply Errno) (fault : CoreFault) (tx : Tx) → old.down ≡ None → Fails fault def → LeavesAtFault old.tx fault tx
     → ((w : World) → can_fail w call Eio ≡ true) → ((w : World) → can_fail w call NoMem ≡ true) → ((e : Errno) → def ≡ Err e → GoesOn old (lines.Call call) (answers.Reply (replies.Err e)) old)
-    → Refuses old call fault (record old { run = run; down = down_after old.down fault })
-read_refused old call def (No e) run up fails leaves eio nomem goes = errs old (record old { run = run }) call e (subst (λ r. GoesOn old (lines.Call call) (answers.Reply (replies.Err e)) (record old { run = r })) (sym leaves) (goes e fails))
-read_refused old call def (Device f) run up fails leaves eio nomem goes = read_falls old (record old { run = run; down = Some (cause_of f) }) call f eio nomem up refl refl leaves
+    → Refuses old call fault (record old { tx = tx; down = down_after old.down fault })
+read_refused old call def (No e) tx up fails leaves eio nomem goes = errs old (record old { tx = tx }) call e (subst (λ r. GoesOn old (lines.Call call) (answers.Reply (replies.Err e)) (record old { tx = r })) (sym leaves) (goes e fails))
+read_refused old call def (Device f) tx up fails leaves eio nomem goes = read_falls old (record old { tx = tx; down = Some (cause_of f) }) call f eio nomem up refl refl leaves
 
 -- ---- the same of a session, by what it was made of
 
-pub counts_by : (old : SessionState) (k0 : KfsState) (o : Opens) (d : Option Cause) (reply : Reply) (fault : CoreFault) (new : Machine) → state_of k0 o d ≡ old → reply ≡ refusal fault → Counts (run_in k0).machine (refusal fault) new → Counts old.book.run.machine reply new
-counts_by old k0 o d reply fault new is reply_is h = subst (λ (s : SessionState). Counts s.book.run.machine reply new) is (subst (λ r. Counts (run_in k0).machine r new) (sym reply_is) h)
+pub counts_by : (old : SessionState) (k0 : KfsState) (o : Opens) (d : Option Cause) (reply : Reply) (fault : CoreFault) (new : Machine) → state_of k0 o d ≡ old → reply ≡ refusal fault → Counts (tx_in k0).machine (refusal fault) new → Counts old.book.tx.machine reply new
+counts_by old k0 o d reply fault new is reply_is h = subst (λ (s : SessionState). Counts s.book.tx.machine reply new) is (subst (λ r. Counts (tx_in k0).machine r new) (sym reply_is) h)
 
 pub keeps_by : (old : SessionState) (k0 k1 : KfsState) (o : Opens) (d d1 : Option Cause) (reply : Reply) (fault : CoreFault) → state_of k0 o d ≡ old → d ≡ None → reply ≡ refusal fault → d1 ≡ down_after d fault → KeepsCause old.book reply (book_of k1 o d1)
 keeps_by old k0 k1 o d d1 reply fault is up reply_is down = subst (λ (s : SessionState). KeepsCause s.book reply (book_of k1 o d1)) is (subst (λ r. KeepsCause (book_of k0 o d) r (book_of k1 o d1)) (sym reply_is) (refused_keeps (book_of k0 o d) (book_of k1 o d1) fault up down))
@@ -119,5 +119,5 @@ keeps_by old k0 k1 o d d1 reply fault is up reply_is down = subst (λ (s : Sessi
 pub none_kept : (old : SessionState) (k0 : KfsState) (o : Opens) (d : Option Cause) → state_of k0 o d ≡ old → d ≡ None → (old.book.down ≡ None) × (d ≡ None)
 none_kept old k0 o d is up = (sym (ap (λ (s : SessionState). s.book.down) is) ∙ up, up)
 
-pub counts_same : (old : SessionState) (k0 : KfsState) (o : Opens) (d : Option Cause) (new : Machine) → state_of k0 o d ≡ old → new.cuts ≡ (run_in k0).machine.cuts → new.faults ≡ (run_in k0).machine.faults → (new.cuts ≡ old.book.run.machine.cuts) × (new.faults ≡ old.book.run.machine.faults)
-counts_same old k0 o d new is cuts faults = (cuts ∙ ap (λ (s : SessionState). s.book.run.machine.cuts) is, faults ∙ ap (λ (s : SessionState). s.book.run.machine.faults) is)
+pub counts_same : (old : SessionState) (k0 : KfsState) (o : Opens) (d : Option Cause) (new : Machine) → state_of k0 o d ≡ old → new.cuts ≡ (tx_in k0).machine.cuts → new.faults ≡ (tx_in k0).machine.faults → (new.cuts ≡ old.book.tx.machine.cuts) × (new.faults ≡ old.book.tx.machine.faults)
+counts_same old k0 o d new is cuts faults = (cuts ∙ ap (λ (s : SessionState). s.book.tx.machine.cuts) is, faults ∙ ap (λ (s : SessionState). s.book.tx.machine.faults) is)

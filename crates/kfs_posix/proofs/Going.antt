@@ -21,7 +21,7 @@ use Rattle.kfs_model.specs.Desk.{Desk}
 use Rattle.kfs_model.specs.Step.{World, After, step}
 use Rattle.kfs_model.specs.Change.{weight, commits, is_boundary}
 use Rattle.kfs_model.specs.Life.{State, Now, Up, Down, Live, Past, tree_at, past_after, live_with, live_after, fallen, with_now, disarmed, is_armed, can_fail, EventAt, IsFree}
-use Rattle.kfs_tx.specs.Run.{SameBounds, HasCause, Fallen, is_full}
+use Rattle.kfs_tx.specs.Tx.{SameBounds, HasCause, Fallen, is_full}
 use Rattle.kfs_core.specs.declared.fault.CoreFault.{CoreFault}
 use Rattle.kfs_core.specs.declared.fault.CoreFault.TheVariants.{No, Device}
 use Rattle.kfs_core.proofs.Outside.{outside_of}
@@ -74,7 +74,7 @@ free b live d sh none = ap (λ (k : Desk). is_some (find nat_cmp d k.description
 
 -- answered: the live state that follows is shown
 pub answered : (old new : Book) (s : State) (live : Live) (call : Call) (reply : Reply) (d : ℕ) → find nat_cmp d old.files.files ≡ None → ShowsLive old live → reply ≡ (step (limits_of old) d live.world call).reply
-    → ShowsLive new (live_after live call (step (limits_of old) d live.world call)) → new.run.machine.cuts ≡ old.run.machine.cuts → new.run.machine.faults ≡ old.run.machine.faults → SameBounds old.run.machine new.run.machine
+    → ShowsLive new (live_after live call (step (limits_of old) d live.world call)) → new.tx.machine.cuts ≡ old.tx.machine.cuts → new.tx.machine.faults ≡ old.tx.machine.faults → SameBounds old.tx.machine new.tx.machine
     → Goes old s (Up live) call reply new
 answered old new s live call reply d none sh is shows cuts faults bounds = (
   with_now s (Up (live_after live call (step (limits_of old) d live.world call))),
@@ -105,20 +105,20 @@ idle_goes old call reply up none quiet did = up_goes old old call reply up (λ s
 
 -- a change; d is the number of the description that it makes
 pub change_goes_at : (old new : Book) (call : Call) (reply : Reply) (n d : ℕ) → find nat_cmp d old.files.files ≡ None → old.down ≡ None
-    → new.run.machine.cuts ≡ old.run.machine.cuts → new.run.machine.faults ≡ old.run.machine.faults → SameBounds old.run.machine new.run.machine
-    → ((live : Live) → ShowsLive old live → (w : World) × (step (limits_of old) d live.world call ≡ record { world = w; reply = reply }) × (weight live.world call (record { world = w; reply = reply }) ≡ Some n) × ShowsLive new (live_with live w (Some n) (is_full (old.run.since + 1) (old.run.weight + n))))
+    → new.tx.machine.cuts ≡ old.tx.machine.cuts → new.tx.machine.faults ≡ old.tx.machine.faults → SameBounds old.tx.machine new.tx.machine
+    → ((live : Live) → ShowsLive old live → (w : World) × (step (limits_of old) d live.world call ≡ record { world = w; reply = reply }) × (weight live.world call (record { world = w; reply = reply }) ≡ Some n) × ShowsLive new (live_with live w (Some n) (is_full (old.tx.since + 1) (old.tx.weight + n))))
     → GoesOn old (lines.Call call) (answers.Reply reply) new
 change_goes_at old new call reply n d none up cuts faults bounds did = up_goes old new call reply up (λ s live fits sh.
     let it = did live sh in
-    let same : live_after live call (step (limits_of old) d live.world call) ≡ live_with live it.0 (Some n) (is_full (old.run.since + 1) (old.run.weight + n)) =
+    let same : live_after live call (step (limits_of old) d live.world call) ≡ live_with live it.0 (Some n) (is_full (old.tx.since + 1) (old.tx.weight + n)) =
     ap (live_after live call) it.1
     ∙ ap (λ (o : Option ℕ). live_with live it.0 o (is_boundary live.since call reply o)) it.2
     ∙ (λ i. live_with live it.0 (Some n) (is_full (sym sh.changes i + 1) (sym sh.weight i + n))) in
     answered old new s live call reply d none sh (sym (ap (λ (a : After). a.reply) it.1)) (subst (ShowsLive new) (sym same) it.3) cuts faults bounds)
 
 pub change_goes : (old new : Book) (call : Call) (reply : Reply) (n : ℕ) → old.down ≡ None → ((w x : World) → weight w call (record { world = x; reply = reply }) ≡ Some n)
-    → new.run.machine.cuts ≡ old.run.machine.cuts → new.run.machine.faults ≡ old.run.machine.faults → SameBounds old.run.machine new.run.machine
-    → ((live : Live) → ShowsLive old live → (w : World) × (step (limits_of old) (spare old) live.world call ≡ record { world = w; reply = reply }) × ShowsLive new (live_with live w (Some n) (is_full (old.run.since + 1) (old.run.weight + n))))
+    → new.tx.machine.cuts ≡ old.tx.machine.cuts → new.tx.machine.faults ≡ old.tx.machine.faults → SameBounds old.tx.machine new.tx.machine
+    → ((live : Live) → ShowsLive old live → (w : World) × (step (limits_of old) (spare old) live.world call ≡ record { world = w; reply = reply }) × ShowsLive new (live_with live w (Some n) (is_full (old.tx.since + 1) (old.tx.weight + n))))
     → GoesOn old (lines.Call call) (answers.Reply reply) new
 change_goes old new call reply n up weighs cuts faults bounds did =
     change_goes_at old new call reply n (spare old) (spare_free old) up cuts faults bounds (λ live sh. let it = did live sh in (it.0, it.1, weighs live.world it.0, it.2))
@@ -170,7 +170,7 @@ old_tree : (past : Past) (t : Tree) (change : Option ℕ) (k : ℕ) → k ≤ pa
 old_tree past t None k le = refl
 old_tree past t (Some n) k le = older past t k le
 
-stood_down : (new : Book) (live : Live) (call : Call) (after : After) (cause : Cause) (stands : Objects) → new.down ≡ Some cause → new.run.machine.stable ≡ stands → live.mark ≤ live.past.count → new.keys ≡ new.run.machine.room_keys → new.pages ≡ new.run.machine.room_pages → Stood live call after (limits_of new) stands → ShowsNow new (fallen live call after)
+stood_down : (new : Book) (live : Live) (call : Call) (after : After) (cause : Cause) (stands : Objects) → new.down ≡ Some cause → new.tx.machine.stable ≡ stands → live.mark ≤ live.past.count → new.keys ≡ new.tx.machine.room_keys → new.pages ≡ new.tx.machine.room_pages → Stood live call after (limits_of new) stands → ShowsNow new (fallen live call after)
 stood_down new live call after cause stands down is behind keys pages (as_before shows) = record {
   cause = cause;
   down = down;
@@ -224,7 +224,7 @@ both_true a b e f = λ i. (e i && f i)
 -- why it goes down, and what stands then
 pub record Fell (old new : Book) (live : Live) (call : Call) (fault : DeviceFault) : Type 0 where
   pub stands : Objects
-  pub fallen : Fallen old.run.machine fault stands new.run.machine
+  pub fallen : Fallen old.tx.machine fault stands new.tx.machine
   pub stood : Stood live call (step (limits_of old) (spare old) live.world call) (limits_of old) stands
   pub can : (cause : Cause) → cause ≡ cause_of fault → can_fail live.world call cause ≡ true
 
@@ -241,9 +241,9 @@ errs old new call e goes = record { goes = goes; answerable = λ live sh. tt }
 pub fall_goes : (old new : Book) (call : Call) (fault : DeviceFault) → old.down ≡ None → new.down ≡ Some (cause_of fault) → limits_of new ≡ limits_of old
     → ((live : Live) → ShowsLive old live → Fell old new live call fault)
     → Refuses old call (Device fault) new
-fall_goes old new call fault up down same fell = record { goes = goes; answerable = λ live sh. outside_of old.run.machine new.run.machine fault (fell live sh).fallen.cause }
+fall_goes old new call fault up down same fell = record { goes = goes; answerable = λ live sh. outside_of old.tx.machine new.tx.machine fault (fell live sh).fallen.cause }
   where
-    by : (s : State) → Fits old s → (live : Live) → ShowsLive old live → (to : Now) → (fault : DeviceFault) → new.down ≡ Some (cause_of fault) → ((cause : Cause) → cause ≡ cause_of fault → can_fail live.world call cause ≡ true) → HasCause old.run.machine fault new.run.machine → SameBounds old.run.machine new.run.machine
+    by : (s : State) → Fits old s → (live : Live) → ShowsLive old live → (to : Now) → (fault : DeviceFault) → new.down ≡ Some (cause_of fault) → ((cause : Cause) → cause ≡ cause_of fault → can_fail live.world call cause ≡ true) → HasCause old.tx.machine fault new.tx.machine → SameBounds old.tx.machine new.tx.machine
         → ((cause : Cause) → new.down ≡ Some cause → ShowsNow new to)
         → (t : State) × ((cause : Cause) × (replies.Down (cause_of fault) ≡ replies.Down cause) × IsTrue (is_armed s cause && can_fail live.world call cause) × (t ≡ disarmed s cause to)) × ShowsNow new t.now × (ShowsState old s → ShowsState new t)
     by s fits live sh to NoTx down can cause bounds shows = absurd cause
@@ -252,14 +252,14 @@ fall_goes old new call fault up down same fell = record { goes = goes; answerabl
     by s fits live sh to (Full k p) down can cause bounds shows = absurd cause
     by s fits live sh to BadSize down can cause bounds shows = absurd cause
     by s fits live sh to Off down can cause bounds shows =
-        let c : new.run.machine.cuts ≤ old.run.machine.most_cuts = cause.0.0 in
-        let may : one_more old.run.machine.cuts ≤ old.run.machine.most_cuts = subst (λ n. n ≤ old.run.machine.most_cuts) cause.0.1 c in (
+        let c : new.tx.machine.cuts ≤ old.tx.machine.most_cuts = cause.0.0 in
+        let may : one_more old.tx.machine.cuts ≤ old.tx.machine.most_cuts = subst (λ n. n ≤ old.tx.machine.most_cuts) cause.0.1 c in (
           disarmed s Cut to,
           (Cut, refl, both_true s.cut_armed (can_fail live.world call Cut) (fits.cuts may) (can Cut refl), refl),
           shows Cut down,
           λ showing.
-              let armed : old.run.machine.most_cuts ≤ old.run.machine.cuts + one_if s.cut_armed = let h = showing.cuts in omega arith in
-              let r = rose old.run.machine.cuts new.run.machine.cuts old.run.machine.most_cuts s.cut_armed armed showing.few_cuts cause.0 in
+              let armed : old.tx.machine.most_cuts ≤ old.tx.machine.cuts + one_if s.cut_armed = let h = showing.cuts in omega arith in
+              let r = rose old.tx.machine.cuts new.tx.machine.cuts old.tx.machine.most_cuts s.cut_armed armed showing.few_cuts cause.0 in
               record {
                 now = shows Cut down;
                 cuts = let b = bounds.most_cuts in omega arith;
@@ -271,13 +271,13 @@ fall_goes old new call fault up down same fell = record { goes = goes; answerabl
               },
         )
     by s fits live sh to Failed down can cause bounds shows =
-        let c : new.run.machine.faults ≤ old.run.machine.most_faults = cause.0.0 in
-        let may : one_more old.run.machine.faults ≤ old.run.machine.most_faults = subst (λ n. n ≤ old.run.machine.most_faults) cause.0.1 c in (
+        let c : new.tx.machine.faults ≤ old.tx.machine.most_faults = cause.0.0 in
+        let may : one_more old.tx.machine.faults ≤ old.tx.machine.most_faults = subst (λ n. n ≤ old.tx.machine.most_faults) cause.0.1 c in (
           disarmed s Eio to,
           (Eio, refl, both_true s.fail_armed (can_fail live.world call Eio) (fits.faults may) (can Eio refl), refl),
           shows Eio down,
           λ showing.
-              let r = rose old.run.machine.faults new.run.machine.faults old.run.machine.most_faults s.fail_armed showing.faults showing.few_faults cause.0 in
+              let r = rose old.tx.machine.faults new.tx.machine.faults old.tx.machine.most_faults s.fail_armed showing.faults showing.few_faults cause.0 in
               record {
                 now = shows Eio down;
                 cuts = let h = showing.cuts in let b = bounds.most_cuts in let f = cause.1 in omega arith;

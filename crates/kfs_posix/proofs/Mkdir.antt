@@ -15,7 +15,7 @@ use Rattle.kfs_model.specs.Tree.{Place, with_new, number_at}
 use Rattle.kfs_model.specs.Step.{syntax, settled, mkdir_at, leaves}
 use Rattle.kfs_model.specs.Life.{Live}
 use Rattle.kfs_shows.proofs.Making.{fresh_dir}
-use Rattle.kfs_tx.specs.Run.{GetFault, seen}
+use Rattle.kfs_tx.specs.Tx.{GetFault, seen}
 use Rattle.kfs_tx.proofs.Falling.{get_falls}
 use Rattle.kfs_core.specs.Flat.{Where, at_root, walk_in, place_in}
 use Rattle.kfs_core.specs.Making.{parent_of, made, MakeFault}
@@ -43,25 +43,25 @@ place_fits m keys charged path w e =
     by v false f c = grind (arith, nat_tests)
 
 module _ (old : Book) (path : List ℕ) where
-  judged_ok : (live : Live) (sh : ShowsLive old live) (r : Result Place Errno) (s : Result Where Errno) (w : Where) → SamePlace (seen old.run) live.world.tree (stands_of old live sh) r s → s ≡ Ok w → (place : Place) × (r ≡ Ok place) × IsSpot live.world.tree place w × (w.node ≡ None)
+  judged_ok : (live : Live) (sh : ShowsLive old live) (r : Result Place Errno) (s : Result Where Errno) (w : Where) → SamePlace (seen old.tx) live.world.tree (stands_of old live sh) r s → s ≡ Ok w → (place : Place) × (r ≡ Ok place) × IsSpot live.world.tree place w × (w.node ≡ None)
   judged_ok live sh (Ok place) (Ok v) w h e = let same : v ≡ w = cc in (place, refl, subst (IsSpot live.world.tree place) same h.0, ap (λ (x : Where). x.node) (sym same) ∙ h.1)
   judged_ok live sh (Ok place) (Err f) w h e = absurd h
   judged_ok live sh (Err d) (Ok v) w h e = absurd h
   judged_ok live sh (Err d) (Err f) w h e = absurd (cc)
 
-  judged_err : (live : Live) (sh : ShowsLive old live) (r : Result Place Errno) (s : Result Where Errno) (f : Errno) → SamePlace (seen old.run) live.world.tree (stands_of old live sh) r s → s ≡ Err f → r ≡ Err f
+  judged_err : (live : Live) (sh : ShowsLive old live) (r : Result Place Errno) (s : Result Where Errno) (f : Errno) → SamePlace (seen old.tx) live.world.tree (stands_of old live sh) r s → s ≡ Err f → r ≡ Err f
   judged_err live sh (Ok place) (Ok v) f h e = absurd (cc)
   judged_err live sh (Ok place) (Err d) f h e = absurd h
   judged_err live sh (Err d) (Ok v) f h e = absurd h
   judged_err live sh (Err c) (Err d) f h e = let g : d ≡ f = cc in ap Err (h ∙ g)
 
-  same_place : (live : Live) (sh : ShowsLive old live) → SamePlace (seen old.run) live.world.tree (stands_of old live sh) (mkdir_at (limits_of old) live.world.tree path) (place_in (seen old.run) old.keys old.charge path)
-  same_place live sh = subst (λ c. SamePlace (seen old.run) live.world.tree (stands_of old live sh) (mkdir_at (limits_of old) live.world.tree path) (place_in (seen old.run) old.keys c path)) (sym sh.charged) (place_same (seen old.run) live.world.tree (stands_of old live sh) (limits_of old) path)
+  same_place : (live : Live) (sh : ShowsLive old live) → SamePlace (seen old.tx) live.world.tree (stands_of old live sh) (mkdir_at (limits_of old) live.world.tree path) (place_in (seen old.tx) old.keys old.charge path)
+  same_place live sh = subst (λ c. SamePlace (seen old.tx) live.world.tree (stands_of old live sh) (mkdir_at (limits_of old) live.world.tree path) (place_in (seen old.tx) old.keys c path)) (sym sh.charged) (place_same (seen old.tx) live.world.tree (stands_of old live sh) (limits_of old) path)
 
-  adds : (w : Where) → old.charge + 2 ≤ old.keys → place_in (seen old.run) old.keys old.charge path ≡ Ok w → (live : Live) → ShowsLive old live → Adds old Dir (calls.Mkdir path) replies.Done old.files (spare old) w live
+  adds : (w : Where) → old.charge + 2 ≤ old.keys → place_in (seen old.tx) old.keys old.charge path ≡ Ok w → (live : Live) → ShowsLive old live → Adds old Dir (calls.Mkdir path) replies.Done old.files (spare old) w live
   adds w fits is live sh =
       let t = live.world.tree in
-      let at = judged_ok live sh (mkdir_at (limits_of old) t path) (place_in (seen old.run) old.keys old.charge path) w (same_place live sh) is in
+      let at = judged_ok live sh (mkdir_at (limits_of old) t path) (place_in (seen old.tx) old.keys old.charge path) w (same_place live sh) is in
       let free = free_place t at.0 w at.2 at.3 in
       record {
         place = at.0;
@@ -73,23 +73,23 @@ module _ (old : Book) (path : List ℕ) where
         fits = fits;
       }
 
-  pub mkdir_goes : (w : Where) → old.down ≡ None → old.run.next + 1 < 2 ^ 63 → old.run.changes + 1 < 2 ^ 63 → old.charge + 2 ≤ old.keys → place_in (seen old.run) old.keys old.charge path ≡ Ok w
-      → GoesOn old (lines.Call (calls.Mkdir path)) (answers.Reply replies.Done) (record old { run = made old.run (parent_of w) w.name; charge = old.charge + 2 })
+  pub mkdir_goes : (w : Where) → old.down ≡ None → old.tx.next + 1 < 2 ^ 63 → old.tx.changes + 1 < 2 ^ 63 → old.charge + 2 ≤ old.keys → place_in (seen old.tx) old.keys old.charge path ≡ Ok w
+      → GoesOn old (lines.Call (calls.Mkdir path)) (answers.Reply replies.Done) (record old { tx = made old.tx (parent_of w) w.name; charge = old.charge + 2 })
   mkdir_goes w up low count fits is = add_goes old 1 Dir fresh_dir refl refl w low count (calls.Mkdir path) replies.Done old.files (spare old) (spare_free old) up (adds w fits is)
 
-  pub mkdir_refused : (e : Errno) → old.down ≡ None → place_in (seen old.run) old.keys old.charge path ≡ Err e → GoesOn old (lines.Call (calls.Mkdir path)) (answers.Reply (replies.Err e)) old
+  pub mkdir_refused : (e : Errno) → old.down ≡ None → place_in (seen old.tx) old.keys old.charge path ≡ Err e → GoesOn old (lines.Call (calls.Mkdir path)) (answers.Reply (replies.Err e)) old
   mkdir_refused e up is = idle_goes old (calls.Mkdir path) (replies.Err e) up (λ w x. refl) refl (λ live sh.
-      ap (λ (r : Result Place Errno). settled live.world (r >>= λ place. leaves live.world (with_new live.world.tree place Dir) replies.Done)) (judged_err live sh (mkdir_at (limits_of old) live.world.tree path) (place_in (seen old.run) old.keys old.charge path) e (same_place live sh) is))
+      ap (λ (r : Result Place Errno). settled live.world (r >>= λ place. leaves live.world (with_new live.world.tree place Dir) replies.Done)) (judged_err live sh (mkdir_at (limits_of old) live.world.tree path) (place_in (seen old.tx) old.keys old.charge path) e (same_place live sh) is))
 
-  pub mkdir_unread : (new : Book) (fault : DeviceFault) → old.down ≡ None → new.down ≡ Some (cause_of fault) → limits_of new ≡ limits_of old → GetFault old.run fault new.run.machine → Refuses old (calls.Mkdir path) (Device fault) new
+  pub mkdir_unread : (new : Book) (fault : DeviceFault) → old.down ≡ None → new.down ≡ Some (cause_of fault) → limits_of new ≡ limits_of old → GetFault old.tx fault new.tx.machine → Refuses old (calls.Mkdir path) (Device fault) new
   mkdir_unread new fault up down same h = fall_goes old new (calls.Mkdir path) fault up down same (λ live sh. record {
-    stands = old.run.machine.stable;
-    fallen = get_falls old.run fault new.run.machine sh.light.ready h;
+    stands = old.tx.machine.stable;
+    fallen = get_falls old.tx fault new.tx.machine sh.light.ready h;
     stood = as_before sh.saved;
     can = λ cause e. any_cause live.world (calls.Mkdir path) refl refl refl cause;
   })
 
-  pub mkdir_falls : (new : Book) (w : Where) (fault : DeviceFault) → old.down ≡ None → new.down ≡ Some (cause_of fault) → limits_of new ≡ limits_of old → old.run.next + 1 < 2 ^ 63 → old.run.changes + 1 < 2 ^ 63 → old.charge + 2 ≤ old.keys → place_in (seen old.run) old.keys old.charge path ≡ Ok w
-      → MakeFault old.run (parent_of w) w.name fault new.run.machine → Refuses old (calls.Mkdir path) (Device fault) new
+  pub mkdir_falls : (new : Book) (w : Where) (fault : DeviceFault) → old.down ≡ None → new.down ≡ Some (cause_of fault) → limits_of new ≡ limits_of old → old.tx.next + 1 < 2 ^ 63 → old.tx.changes + 1 < 2 ^ 63 → old.charge + 2 ≤ old.keys → place_in (seen old.tx) old.keys old.charge path ≡ Ok w
+      → MakeFault old.tx (parent_of w) w.name fault new.tx.machine → Refuses old (calls.Mkdir path) (Device fault) new
   mkdir_falls new w fault up down same low count fits is h =
       add_falls old 1 Dir fresh_dir refl refl w low count new (calls.Mkdir path) replies.Done old.files fault up down same (λ world cause. any_cause world (calls.Mkdir path) refl refl refl cause) (adds w fits is) h

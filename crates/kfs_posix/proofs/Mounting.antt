@@ -20,10 +20,10 @@ use Rattle.kfs_model.specs.Tree.{Tree, Limits, charge, chunks, is_named, node_of
 use Rattle.kfs_model.specs.Life.{Past, tree_at, ended_at, up_at}
 use Rattle.kfs_shows.specs.Shows.{Shows}
 use Rattle.kfs_shows.proofs.Counting.{few_objects}
-use Rattle.kfs_tx.specs.Run.{Run}
+use Rattle.kfs_tx.specs.Tx.{Tx}
 use Rattle.kfs_tx.proofs.Opening.{ready, sees_stable, none_changed}
 use Rattle.kfs_core.specs.Clearing.{Cleared, begun_over, Keeps}
-use Rattle.kfs_core.specs.Core.{KfsState, run_in}
+use Rattle.kfs_core.specs.Core.{KfsState, tx_in}
 use Rattle.kfs_core.specs.Counted.{charge_in, chunks_in}
 use Rattle.kfs_core.specs.Stands.{Stands}
 use Rattle.kfs_core.specs.Starting.{Started}
@@ -83,7 +83,7 @@ named_all t n node e = by (is_named t n) (sym (find-where_key nat_cmp (is_named 
 module _ (old : Machine) (up : old.up ≡ true) (idle : old.pending ≡ none_open) where
   shows_live : (now : Objects) → Cleared old.stable now → (changes next keys pages charged chunked : ℕ) → keys ≡ old.room_keys → pages ≡ old.room_pages → keys < 2 ^ 32
       → option_and_then read_super (objects.get old.stable super_key) ≡ Some (changes, next) → charged ≡ charge_in now → chunked ≡ chunks_in now
-      → (past : Past) (k : ℕ) → IsStored old (tree_at past k) k → (changes ≡ k) × ShowsLive (record { run = begun_over old now changes next; keys = keys; pages = pages; charge = charged; chunks = chunked; files = no_files; down = None }) (up_at past k)
+      → (past : Past) (k : ℕ) → IsStored old (tree_at past k) k → (changes ≡ k) × ShowsLive (record { tx = begun_over old now changes next; keys = keys; pages = pages; charge = charged; chunks = chunked; files = no_files; down = None }) (up_at past k)
   shows_live now cleared changes next keys pages charged chunked keys_is pages_is small head counted pieces past k before =
       let t = tree_at past k in
       let u = named t in
@@ -134,10 +134,10 @@ module _ (old : Machine) (up : old.up ≡ true) (idle : old.pending ≡ none_ope
   -- a mount that began so
   pub mounted : (kfs : KfsState) (o : Opens) → o ≡ no_files → old.room_keys ≤ 68544 → Started old kfs → Mounts old (book_of kfs o None)
   mounted kfs o none few h =
-      let r = run_in kfs in
+      let r = tx_in kfs in
       let now = r.machine.stable in
       subst (λ x. Mounts old (book_of kfs x None)) (sym none)
-      (subst (λ (x : Run). Mounts old (record { run = x; keys = kfs.keys; pages = kfs.pages; charge = kfs.charge; chunks = kfs.chunks; files = no_files; down = None })) (sym h.run)
+      (subst (λ (x : Tx). Mounts old (record { tx = x; keys = kfs.keys; pages = kfs.pages; charge = kfs.charge; chunks = kfs.chunks; files = no_files; down = None })) (sym h.tx)
       (record { each = shows_live now h.cleared r.changes r.next kfs.keys kfs.pages kfs.charge kfs.chunks h.keys h.pages (let e = h.keys in omega arith) h.head h.charge h.chunks }))
 
 -- ---- each session that is mounted shows some live state

@@ -3,11 +3,11 @@ use Rattle.std.proofs.Common.{refl, Err, None}
 use Rattle.kfs_path.specs.declared.call.Call.TheVariants as calls
 use Rattle.kfs_model.specs.Life.{Live}
 use Rattle.kfs_model.specs.Step.{natural}
-use Rattle.kfs_tx.specs.Run.{seen}
+use Rattle.kfs_tx.specs.Tx.{seen}
 use Rattle.kfs_tx.proofs.Falling.{get_falls}
 use Rattle.kfs_core.specs.declared.fault.CoreFault.{CoreFault}
 use Rattle.kfs_core.specs.declared.fault.CoreFault.TheVariants.{No, Device}
-use Rattle.kfs_core.specs.Core.{KfsState, run_in}
+use Rattle.kfs_core.specs.Core.{KfsState, tx_in}
 use Rattle.kfs_core.specs.Room.{space_in}
 use Rattle.kfs_core.proofs.Outside.{outside_of}
 use Rattle.kfs_posix.specs.Opens.{Opens}
@@ -40,7 +40,7 @@ run_alone k new = record k { running = new.running }
 
 pub reading : Refusals.ReadingIsNeverRefused
 reading k new o files live (No e) serves h = tt
-reading k new o files live (Device f) serves h = outside_of (run_in k).machine (run_in new).machine f (get_falls (run_in k) f (run_in new).machine serves.shows.light.ready h).cause
+reading k new o files live (Device f) serves h = outside_of (tx_in k).machine (tx_in new).machine f (get_falls (tx_in k) f (tx_in new).machine serves.shows.light.ready h).cause
 
 pub committing : Refusals.CommittingIsNeverRefused
 committing k new o files live fault serves h = (sync_refused (state_of k o None) k (run_alone k new) o None refl refl refl (refusal fault) fault (down_after None fault) h refl refl).answerable (shown k o live serves)
@@ -54,7 +54,7 @@ mkdir path k new o files live fault serves h = (mkdir_not_made (state_of k o Non
 pub opening : Refusals.OpeningIsNeverRefused
 opening path flags k new o files live fault serves h = (open_failed (state_of k o None) k (record new { keys = k.keys; pages = k.pages }) o files None refl refl serves.shows.light.ready.up serves.age refl refl path flags fault (refusal fault) (down_after None fault) (at fault h) refl refl).answerable (shown k o live serves)
   where
-    at : (fault : CoreFault) → OpenDoes k o flags (open_in (seen (run_in k)) (space_in k) o path flags) (Err fault) new files → OpenDoes k o flags (open_in (seen (run_in k)) (space_in k) o path flags) (Err fault) (record new { keys = k.keys; pages = k.pages }) files
+    at : (fault : CoreFault) → OpenDoes k o flags (open_in (seen (tx_in k)) (space_in k) o path flags) (Err fault) new files → OpenDoes k o flags (open_in (seen (tx_in k)) (space_in k) o path flags) (Err fault) (record new { keys = k.keys; pages = k.pages }) files
     at (No e) h = h
     at (Device f) h = h
 
@@ -66,19 +66,19 @@ pwrite fd given offset k new o files live fault serves h = (pwrite_failed (state
 
 pub truncate : Refusals.TruncateIsNeverRefused
 truncate path size k new o files live fault serves h =
-    (resize_failed (state_of k o None) k new o files None refl refl serves.shows.light.ready.up serves.age (calls.Truncate path size) (truncate_by (seen (run_in k)) (space_in k) path size) (natural size) (truncate_resizing (book_of k o None) path size) fault (refusal fault) (down_after None fault) h refl refl).answerable (shown k o live serves)
+    (resize_failed (state_of k o None) k new o files None refl refl serves.shows.light.ready.up serves.age (calls.Truncate path size) (truncate_by (seen (tx_in k)) (space_in k) path size) (natural size) (truncate_resizing (book_of k o None) path size) fault (refusal fault) (down_after None fault) h refl refl).answerable (shown k o live serves)
 
 pub ftruncate : Refusals.FtruncateIsNeverRefused
 ftruncate fd size k new o files live fault serves h =
-    (resize_failed (state_of k o None) k new o files None refl refl serves.shows.light.ready.up serves.age (calls.Ftruncate fd size) (ftruncate_in (seen (run_in k)) (space_in k) o fd size) (natural size) (ftruncate_resizing (book_of k o None) fd size) fault (refusal fault) (down_after None fault) h refl refl).answerable (shown k o live serves)
+    (resize_failed (state_of k o None) k new o files None refl refl serves.shows.light.ready.up serves.age (calls.Ftruncate fd size) (ftruncate_in (seen (tx_in k)) (space_in k) o fd size) (natural size) (ftruncate_resizing (book_of k o None) fd size) fault (refusal fault) (down_after None fault) h refl refl).answerable (shown k o live serves)
 
 pub unlink : Refusals.UnlinkIsNeverRefused
 unlink path k new o files live fault serves h =
-    (unname_failed (state_of k o None) k new o files None refl refl serves.shows.light.ready.up serves.age (calls.Unlink path) (unlink_by (seen (run_in k)) path) (unlink_removal (book_of k o None) path) fault (refusal fault) (down_after None fault) h refl refl).answerable (shown k o live serves)
+    (unname_failed (state_of k o None) k new o files None refl refl serves.shows.light.ready.up serves.age (calls.Unlink path) (unlink_by (seen (tx_in k)) path) (unlink_removal (book_of k o None) path) fault (refusal fault) (down_after None fault) h refl refl).answerable (shown k o live serves)
 
 pub rmdir : Refusals.RmdirIsNeverRefused
 rmdir path k new o files live fault serves h =
-    (unname_failed (state_of k o None) k new o files None refl refl serves.shows.light.ready.up serves.age (calls.Rmdir path) (rmdir_by (seen (run_in k)) path) (rmdir_removal (book_of k o None) path) fault (refusal fault) (down_after None fault) h refl refl).answerable (shown k o live serves)
+    (unname_failed (state_of k o None) k new o files None refl refl serves.shows.light.ready.up serves.age (calls.Rmdir path) (rmdir_by (seen (tx_in k)) path) (rmdir_removal (book_of k o None) path) fault (refusal fault) (down_after None fault) h refl refl).answerable (shown k o live serves)
 
 pub rename : Refusals.RenameIsNeverRefused
 rename from to k new o files live fault serves h = (rename_failed (state_of k o None) k new o files None refl refl serves.shows.light.ready.up serves.age from to fault (refusal fault) (down_after None fault) h refl refl).answerable (shown k o live serves)

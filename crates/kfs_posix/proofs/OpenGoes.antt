@@ -17,7 +17,7 @@ use Rattle.kfs_model.specs.Desk.{Desk}
 use Rattle.kfs_model.specs.Change.{node_open}
 use Rattle.kfs_model.specs.Life.{Live}
 use Rattle.kfs_shows.proofs.Making.{fresh_file}
-use Rattle.kfs_tx.specs.Run.{seen, GetFault}
+use Rattle.kfs_tx.specs.Tx.{seen, GetFault}
 use Rattle.kfs_core.specs.declared.room.Space.{Space}
 use Rattle.kfs_core.proofs.ResizingJudges.{charge_resized, chunks_resized}
 use Rattle.kfs_core.specs.Flat.{Where}
@@ -47,21 +47,21 @@ module _ (old : Book) (path : List ℕ) (flags : Flags) where
   o = old.files
 
   abbrev pub judge : Result Opening Errno
-  judge = open_in (seen old.run) (space_of old) o path flags
+  judge = open_in (seen old.tx) (space_of old) o path flags
 
   -- what the judge means in the tree that is shown
-  means : (d : ℕ) (live : Live) (sh : ShowsLive old live) → Meaning (seen old.run) live.world.tree (stands_of old live sh) (limits_of old) sh.room o d flags (open_path (limits_of old) d (world_in live.world.tree o) path flags) judge
+  means : (d : ℕ) (live : Live) (sh : ShowsLive old live) → Meaning (seen old.tx) live.world.tree (stands_of old live sh) (limits_of old) sh.room o d flags (open_path (limits_of old) d (world_in live.world.tree o) path flags) judge
   means d live sh =
       let t = live.world.tree in
-      let m = seen old.run in
+      let m = seen old.tx in
       let stands = stands_of old live sh in
       let effect = open_path (limits_of old) d (world_in t o) path flags in
       let space_is : space_for (limits_of old) t ≡ space_of old = λ i. record { keys = old.keys; pages = old.pages; charge = sym sh.charged i; chunks = sym sh.chunked i } in
       subst (λ (s : Space). Meaning m t stands (limits_of old) sh.room o d flags effect (open_in m s o path flags)) space_is
       (meaning m t stands (limits_of old) sh.room o d flags effect (open_in m (space_for (limits_of old) t) o path flags) (open_same m t stands (limits_of old) sh.room o d flags path))
 
-  means_at : (d : ℕ) (live : Live) (sh : ShowsLive old live) (r : Result Opening Errno) → judge ≡ r → Meaning (seen old.run) live.world.tree (stands_of old live sh) (limits_of old) sh.room o d flags (open_path (limits_of old) d (world_in live.world.tree o) path flags) r
-  means_at d live sh r is = subst (Meaning (seen old.run) live.world.tree (stands_of old live sh) (limits_of old) sh.room o d flags (open_path (limits_of old) d (world_in live.world.tree o) path flags)) is (means d live sh)
+  means_at : (d : ℕ) (live : Live) (sh : ShowsLive old live) (r : Result Opening Errno) → judge ≡ r → Meaning (seen old.tx) live.world.tree (stands_of old live sh) (limits_of old) sh.room o d flags (open_path (limits_of old) d (world_in live.world.tree o) path flags) r
+  means_at d live sh r is = subst (Meaning (seen old.tx) live.world.tree (stands_of old live sh) (limits_of old) sh.room o d flags (open_path (limits_of old) d (world_in live.world.tree o) path flags)) is (means d live sh)
 
   stepped : (d : ℕ) (live : Live) (sh : ShowsLive old live) → step (limits_of old) d live.world call ≡ settled (world_in live.world.tree o) (open_path (limits_of old) d (world_in live.world.tree o) path flags)
   stepped d live sh = λ i. step (limits_of old) d (record { tree = live.world.tree; desk = sh.desk i }) call
@@ -86,7 +86,7 @@ module _ (old : Book) (path : List ℕ) (flags : Flags) where
       ))
 
   abbrev pub new_file : OpenFile
-  new_file = opened_file old.run.next true 0 flags
+  new_file = opened_file old.tx.next true 0 flags
 
   adds : (fd d : ℕ) (v : Where) → find nat_cmp d o.files ≡ None → judge ≡ Ok (New v fd) → (live : Live) → ShowsLive old live → Adds old (File []) call (replies.Number fd) (opened_as o fd d new_file) d v live
   adds fd d v free is live sh =
@@ -106,8 +106,8 @@ module _ (old : Book) (path : List ℕ) (flags : Flags) where
         fits = let c = sh.charged in let f = h.5 in omega arith;
       }
 
-  pub open_new_goes : (fd d : ℕ) (v : Where) → find nat_cmp d o.files ≡ None → old.down ≡ None → old.run.next + 1 < 2 ^ 63 → old.run.changes + 1 < 2 ^ 63 → judge ≡ Ok (New v fd)
-      → GoesOn old (lines.Call call) (answers.Reply (replies.Number fd)) (record old { run = created old.run (parent_of v) v.name; charge = old.charge + 2; files = opened_as o fd d new_file })
+  pub open_new_goes : (fd d : ℕ) (v : Where) → find nat_cmp d o.files ≡ None → old.down ≡ None → old.tx.next + 1 < 2 ^ 63 → old.tx.changes + 1 < 2 ^ 63 → judge ≡ Ok (New v fd)
+      → GoesOn old (lines.Call call) (answers.Reply (replies.Number fd)) (record old { tx = created old.tx (parent_of v) v.name; charge = old.charge + 2; files = opened_as o fd d new_file })
   open_new_goes fd d v free up low count is = add_goes old 2 (File []) fresh_file refl refl v low count call (replies.Number fd) (opened_as o fd d new_file) d free up (adds fd d v free is)
 
   -- ---- a file that is cut to no bytes
@@ -134,10 +134,10 @@ module _ (old : Book) (path : List ℕ) (flags : Flags) where
         room = (λ i. nat_le (charge_resized t sh.tree n h.0 h.3 0 i) old.keys && nat_le (chunks_resized t sh.tree n h.0 h.3 0 i) old.pages) ∙ cut_fits (limits_of old) t sh.room (length h.0);
       }
 
-  pub open_unread : (new : Book) (fault : DeviceFault) → old.down ≡ None → new.down ≡ Some (cause_of fault) → limits_of new ≡ limits_of old → GetFault old.run fault new.run.machine → Refuses old call (Device fault) new
+  pub open_unread : (new : Book) (fault : DeviceFault) → old.down ≡ None → new.down ≡ Some (cause_of fault) → limits_of new ≡ limits_of old → GetFault old.tx fault new.tx.machine → Refuses old call (Device fault) new
   open_unread new fault up down same h = unread_falls old new call fault (λ w cause. any_cause w call refl refl refl cause) up down same h
 
-  pub open_falls : (new : Book) (fd : ℕ) (v : Where) (fault : DeviceFault) → old.down ≡ None → new.down ≡ Some (cause_of fault) → limits_of new ≡ limits_of old → old.run.next + 1 < 2 ^ 63 → old.run.changes + 1 < 2 ^ 63 → judge ≡ Ok (New v fd)
-      → CreateFault old.run (parent_of v) v.name fault new.run.machine → Refuses old call (Device fault) new
+  pub open_falls : (new : Book) (fd : ℕ) (v : Where) (fault : DeviceFault) → old.down ≡ None → new.down ≡ Some (cause_of fault) → limits_of new ≡ limits_of old → old.tx.next + 1 < 2 ^ 63 → old.tx.changes + 1 < 2 ^ 63 → judge ≡ Ok (New v fd)
+      → CreateFault old.tx (parent_of v) v.name fault new.tx.machine → Refuses old call (Device fault) new
   open_falls new fd v fault up down same low count is h =
       add_falls old 2 (File []) fresh_file refl refl v low count new call (replies.Number fd) (opened_as o fd (spare old) new_file) fault up down same (λ w cause. any_cause w call refl refl refl cause) (adds fd (spare old) v (spare_free old) is) h

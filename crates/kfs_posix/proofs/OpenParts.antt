@@ -7,10 +7,10 @@ use Rattle.kfs_path.specs.declared.call.Errno.{Errno}
 use Rattle.kfs_path.specs.declared.call.Flags.{Flags}
 use Rattle.kfs_model.specs.Ladder.{◌>>=◌}
 use Rattle.kfs_model.specs.Step.{Route}
-use Rattle.kfs_tx.specs.Run.{seen}
+use Rattle.kfs_tx.specs.Tx.{seen}
 use Rattle.kfs_core.specs.declared.fault.CoreFault.{CoreFault}
 use Rattle.kfs_core.specs.declared.fault.CoreFault.TheVariants.{No, Device}
-use Rattle.kfs_core.specs.Core.{KfsState, run_in, Same}
+use Rattle.kfs_core.specs.Core.{KfsState, tx_in, Same}
 use Rattle.kfs_core.specs.Flat.{reach_in}
 use Rattle.kfs_core.specs.Resizing.{resize_in, ResizesTo, ResizeFails}
 use Rattle.kfs_core.specs.Room.{space_in}
@@ -32,7 +32,7 @@ module _ (k : KfsState) (o mid : Opens) (n kind size : ℕ) (trailing : Bool) (f
   file = opened_file n (not (kind == 1)) size flags
 
   abbrev m : Objects
-  m = seen (run_in k)
+  m = seen (tx_in k)
 
   abbrev judge : Result Opening Errno
   judge = open_there_in m (space_in k) o n kind size trailing flags
@@ -57,7 +57,7 @@ module _ (k : KfsState) (o mid : Opens) (n kind size : ℕ) (trailing : Bool) (f
 
   pub cut_failed : not flags.trunc ≡ false → (fault : CoreFault) (after : KfsState) → ResizeFails k n 0 fault after → OpenFails k o judge fault after mid
   cut_failed cut (No e) after (denied, rests) =
-      (judged true (when flags.trunc cut) ∙ ap (λ r. r >>= λ was. Ok (Cut fd file was)) denied, ap run_in rests, ap (λ (x : KfsState). x.charge) rests, ap (λ (x : KfsState). x.chunks) rests, same)
+      (judged true (when flags.trunc cut) ∙ ap (λ r. r >>= λ was. Ok (Cut fd file was)) denied, ap tx_in rests, ap (λ (x : KfsState). x.charge) rests, ap (λ (x : KfsState). x.chunks) rests, same)
   cut_failed cut (Device f) after (stays, inl unread) = (inl unread, ap (λ (x : KfsState). x.charge) stays, ap (λ (x : KfsState). x.chunks) stays, same)
   cut_failed cut (Device f) after (stays, inr (was, resizes, apart, fell)) = (
     inr (inr (fd, file, was, judged true (when flags.trunc cut) ∙ ap (λ r. r >>= λ was. Ok (Cut fd file was)) resizes, apart, fell)),
@@ -77,9 +77,9 @@ open_same k mid new o files flags judged (Err (No e)) h = h
 open_same k mid new o files flags judged (Err (Device f)) h = h
 
 -- what was opened by what a walk found, after a look-up that changed nothing
-pub opened_by : (k mid new : KfsState) (o files : Opens) (flags : Flags) (route : Route) (found : Option (ℕ × ℕ × ℕ)) (result : Result ℕ CoreFault) → Same k mid → reach_in (seen (run_in k)) route ≡ Ok found
-    → OpenDoes mid o flags (open_found (seen (run_in mid)) (space_in mid) o route flags found) result new files → OpenDoes k o flags (open_at_in (seen (run_in k)) (space_in k) o route flags) result new files
+pub opened_by : (k mid new : KfsState) (o files : Opens) (flags : Flags) (route : Route) (found : Option (ℕ × ℕ × ℕ)) (result : Result ℕ CoreFault) → Same k mid → reach_in (seen (tx_in k)) route ≡ Ok found
+    → OpenDoes mid o flags (open_found (seen (tx_in mid)) (space_in mid) o route flags found) result new files → OpenDoes k o flags (open_at_in (seen (tx_in k)) (space_in k) o route flags) result new files
 opened_by k mid new o files flags route found result same reach does =
-    subst (λ j. OpenDoes k o flags j result new files) (sym (ap (λ r. r >>= λ found. open_found (seen (run_in k)) (space_in k) o route flags found) reach))
-    (open_same k mid new o files flags (open_found (seen (run_in k)) (space_in k) o route flags found) result
-    (subst (λ (x : KfsState). OpenDoes x o flags (open_found (seen (run_in x)) (space_in x) o route flags found) result new files) same does))
+    subst (λ j. OpenDoes k o flags j result new files) (sym (ap (λ r. r >>= λ found. open_found (seen (tx_in k)) (space_in k) o route flags found) reach))
+    (open_same k mid new o files flags (open_found (seen (tx_in k)) (space_in k) o route flags found) result
+    (subst (λ (x : KfsState). OpenDoes x o flags (open_found (seen (tx_in x)) (space_in x) o route flags found) result new files) same does))

@@ -16,7 +16,7 @@ use Rattle.kfs_model.specs.Change.{weight, is_boundary}
 use Rattle.kfs_model.specs.Life.{Live, can_fail}
 use Rattle.kfs_shows.specs.Sweeping.{ShowsWorld}
 use Rattle.kfs_shows.proofs.Sweeping.{nameless_test}
-use Rattle.kfs_tx.specs.Run.{Run, SameBounds, Caused, HasCause, Fallen, ChangeFault, GetFault, seen, committed, counted, one_change, with_super, is_full}
+use Rattle.kfs_tx.specs.Tx.{Tx, SameBounds, Caused, HasCause, Fallen, ChangeFault, GetFault, seen, committed, counted, one_change, with_super, is_full}
 use Rattle.kfs_tx.proofs.Falling.{change_falls, get_falls}
 use Rattle.kfs_file.specs.Contents.{Fails, pending_of}
 use Rattle.kfs_file.proofs.Failing.{cause_before}
@@ -32,54 +32,54 @@ use Rattle.kfs_posix.proofs.Fault.{SameMachine}
 use Rattle.kfs_core.specs.declared.fault.CoreFault.TheVariants.{Device}
 
 -- the world that the objects show
-pub world_shown : (b : Book) (live : Live) → ShowsLive b live → ShowsWorld (seen b.run) live.world
+pub world_shown : (b : Book) (live : Live) → ShowsLive b live → ShowsWorld (seen b.tx) live.world
 world_shown b live sh = record {
   tree = sh.tree;
   shows = sh.sees.tree;
   opened = λ k node there none. ap (λ (desk : Desk). is_open desk k) sh.desk ∙ sh.holds.kept k node there (nameless_test live.world.tree sh.tree k none);
 }
 
--- what a change leaves of a run's device
-one_same : (r : Run) (n next : ℕ) → SameMachine r.machine (one_change r n next).machine × SameBounds r.machine (one_change r n next).machine
+-- what a change leaves of a tx's device
+one_same : (r : Tx) (n next : ℕ) → SameMachine r.machine (one_change r n next).machine × SameBounds r.machine (one_change r n next).machine
 one_same r n next = by (counted r n next) (is_full (r.since + 1) (r.weight + n)) refl refl refl (record { most_cuts = refl; most_faults = refl; room_keys = refl; room_pages = refl })
   where
-    by : (s : Run) (b : Bool) → s.machine.up ≡ r.machine.up → s.machine.cuts ≡ r.machine.cuts → s.machine.faults ≡ r.machine.faults → SameBounds r.machine s.machine → SameMachine r.machine (cond b (committed s) s).machine × SameBounds r.machine (cond b (committed s) s).machine
+    by : (s : Tx) (b : Bool) → s.machine.up ≡ r.machine.up → s.machine.cuts ≡ r.machine.cuts → s.machine.faults ≡ r.machine.faults → SameBounds r.machine s.machine → SameMachine r.machine (cond b (committed s) s).machine × SameBounds r.machine (cond b (committed s) s).machine
     by s true a b c d = (record { up = a; cuts = b; faults = c }, record { most_cuts = d.most_cuts; most_faults = d.most_faults; room_keys = d.room_keys; room_pages = d.room_pages })
     by s false a b c d = (record { up = a; cuts = b; faults = c }, d)
 
 -- the same where only the pending changes differed before
-pub changed_same : (old mid : Run) → mid ≡ pending_of mid old → (n next : ℕ) → SameMachine old.machine (one_change mid n next).machine
+pub changed_same : (old mid : Tx) → mid ≡ pending_of mid old → (n next : ℕ) → SameMachine old.machine (one_change mid n next).machine
 changed_same old mid same n next =
     let h = (one_same mid n next).0 in
-    record { up = h.up ∙ ap (λ (r : Run). r.machine.up) same; cuts = h.cuts ∙ ap (λ (r : Run). r.machine.cuts) same; faults = h.faults ∙ ap (λ (r : Run). r.machine.faults) same }
+    record { up = h.up ∙ ap (λ (r : Tx). r.machine.up) same; cuts = h.cuts ∙ ap (λ (r : Tx). r.machine.cuts) same; faults = h.faults ∙ ap (λ (r : Tx). r.machine.faults) same }
 
-pub changed_bounds : (old mid : Run) → mid ≡ pending_of mid old → (n next : ℕ) → SameBounds old.machine (one_change mid n next).machine
+pub changed_bounds : (old mid : Tx) → mid ≡ pending_of mid old → (n next : ℕ) → SameBounds old.machine (one_change mid n next).machine
 changed_bounds old mid same n next =
     let h = (one_same mid n next).1 in
     record {
-      most_cuts = h.most_cuts ∙ ap (λ (r : Run). r.machine.most_cuts) same;
-      most_faults = h.most_faults ∙ ap (λ (r : Run). r.machine.most_faults) same;
-      room_keys = h.room_keys ∙ ap (λ (r : Run). r.machine.room_keys) same;
-      room_pages = h.room_pages ∙ ap (λ (r : Run). r.machine.room_pages) same;
+      most_cuts = h.most_cuts ∙ ap (λ (r : Tx). r.machine.most_cuts) same;
+      most_faults = h.most_faults ∙ ap (λ (r : Tx). r.machine.most_faults) same;
+      room_keys = h.room_keys ∙ ap (λ (r : Tx). r.machine.room_keys) same;
+      room_pages = h.room_pages ∙ ap (λ (r : Tx). r.machine.room_pages) same;
     }
 
 -- a cause after the objects are put is one from the beginning on
-pub caused_from : (old mid : Run) (fault : DeviceFault) (new : Machine) → mid ≡ pending_of mid old → Caused mid.machine fault new → Caused old.machine fault new
-caused_from old mid fault new same h = cause_before old.machine mid.machine.pending fault new (subst (λ (r : Run). Caused r.machine fault new) same h)
+pub caused_from : (old mid : Tx) (fault : DeviceFault) (new : Machine) → mid ≡ pending_of mid old → Caused mid.machine fault new → Caused old.machine fault new
+caused_from old mid fault new same h = cause_before old.machine mid.machine.pending fault new (subst (λ (r : Tx). Caused r.machine fault new) same h)
 
-pub change_caused : (old mid : Run) (n next : ℕ) (fault : DeviceFault) (new : Machine) → mid ≡ pending_of mid old → ChangeFault mid n next fault new → Caused old.machine fault new
+pub change_caused : (old mid : Tx) (n next : ℕ) (fault : DeviceFault) (new : Machine) → mid ≡ pending_of mid old → ChangeFault mid n next fault new → Caused old.machine fault new
 change_caused old mid n next fault new same (inl h) = caused_from old mid fault new same h.1
 change_caused old mid n next fault new same (inr h) = caused_from old mid fault new same h.1.1
 
-pub fallen_from : (old mid : Run) (fault : DeviceFault) (stands : Objects) (new : Machine) → mid ≡ pending_of mid old → HasCause mid.machine fault new → new.stable ≡ stands → SameBounds mid.machine new → Fallen old.machine fault stands new
+pub fallen_from : (old mid : Tx) (fault : DeviceFault) (stands : Objects) (new : Machine) → mid ≡ pending_of mid old → HasCause mid.machine fault new → new.stable ≡ stands → SameBounds mid.machine new → Fallen old.machine fault stands new
 fallen_from old mid fault stands new same cause is bounds = record {
-  cause = by fault (subst (λ (r : Run). HasCause r.machine fault new) same cause);
+  cause = by fault (subst (λ (r : Tx). HasCause r.machine fault new) same cause);
   stable = is;
   bounds = record {
-    most_cuts = bounds.most_cuts ∙ ap (λ (r : Run). r.machine.most_cuts) same;
-    most_faults = bounds.most_faults ∙ ap (λ (r : Run). r.machine.most_faults) same;
-    room_keys = bounds.room_keys ∙ ap (λ (r : Run). r.machine.room_keys) same;
-    room_pages = bounds.room_pages ∙ ap (λ (r : Run). r.machine.room_pages) same;
+    most_cuts = bounds.most_cuts ∙ ap (λ (r : Tx). r.machine.most_cuts) same;
+    most_faults = bounds.most_faults ∙ ap (λ (r : Tx). r.machine.most_faults) same;
+    room_keys = bounds.room_keys ∙ ap (λ (r : Tx). r.machine.room_keys) same;
+    room_pages = bounds.room_pages ∙ ap (λ (r : Tx). r.machine.room_pages) same;
   };
 }
   where
@@ -94,7 +94,7 @@ fallen_from old mid fault stands new same cause is bounds = record {
     by Memory h = h
 
 -- the objects of a planned change are put
-plan_put : (old : Book) (live : Live) → ShowsLive old live → (mid : Run) (desk : Desk) (call : Call) (n c p : ℕ) → old.run.changes + 1 < 2 ^ 63 → (plan : Plan old.run mid (limits_of old) live.world desk call n c p) → IsPut old mid plan.world.tree n mid.next
+plan_put : (old : Book) (live : Live) → ShowsLive old live → (mid : Tx) (desk : Desk) (call : Call) (n c p : ℕ) → old.tx.changes + 1 < 2 ^ 63 → (plan : Plan old.tx mid (limits_of old) live.world desk call n c p) → IsPut old mid plan.world.tree n mid.next
 plan_put old live sh mid desk call n c p count plan = record {
   ready = plan.ready;
   tree = plan.shows.tree;
@@ -112,19 +112,19 @@ plan_put old live sh mid desk call n c p count plan = record {
 }
 
 -- a plan with the open files after the call
-pub record Planned (old : Book) (mid : Run) (call : Call) (files : Opens) (n c p : ℕ) (live : Live) : Type 0 where
-  pub plan : Plan old.run mid (limits_of old) live.world (desk_of files) call n c p
+pub record Planned (old : Book) (mid : Tx) (call : Call) (files : Opens) (n c p : ℕ) (live : Live) : Type 0 where
+  pub plan : Plan old.tx mid (limits_of old) live.world (desk_of files) call n c p
   pub holds : Holds files plan.world.tree
 
-module _ (old : Book) (mid : Run) (same : mid ≡ pending_of mid old.run) (call : Call) (files : Opens) (n c p : ℕ) (count : old.run.changes + 1 < 2 ^ 63) (up : old.down ≡ None)
+module _ (old : Book) (mid : Tx) (same : mid ≡ pending_of mid old.tx) (call : Call) (files : Opens) (n c p : ℕ) (count : old.tx.changes + 1 < 2 ^ 63) (up : old.down ≡ None)
     (planned : (live : Live) → ShowsLive old live → Planned old mid call files n c p live) where
   world_is : (live : Live) (x : Planned old mid call files n c p live) → x.plan.world ≡ record { tree = x.plan.world.tree; desk = desk_of files }
   world_is live x = λ i. record { tree = x.plan.world.tree; desk = x.plan.desk i }
 
-  pub planned_goes : GoesOn old (lines.Call call) (answers.Reply replies.Done) (record old { run = one_change mid n mid.next; charge = c; chunks = p; files = files })
+  pub planned_goes : GoesOn old (lines.Call call) (answers.Reply replies.Done) (record old { tx = one_change mid n mid.next; charge = c; chunks = p; files = files })
   planned_goes =
-      let m = changed_same old.run mid same n mid.next in
-      change_goes_at old (record old { run = one_change mid n mid.next; charge = c; chunks = p; files = files }) call replies.Done n (spare old) (spare_free old) up m.cuts m.faults (changed_bounds old.run mid same n mid.next) (λ live sh.
+      let m = changed_same old.tx mid same n mid.next in
+      change_goes_at old (record old { tx = one_change mid n mid.next; charge = c; chunks = p; files = files }) call replies.Done n (spare old) (spare_free old) up m.cuts m.faults (changed_bounds old.tx mid same n mid.next) (λ live sh.
       let x = planned live sh in (
         record { tree = x.plan.world.tree; desk = desk_of files },
         x.plan.steps (spare old) ∙ (λ i. record { world = world_is live x i; reply = replies.Done }),
@@ -134,7 +134,7 @@ module _ (old : Book) (mid : Run) (same : mid ≡ pending_of mid old.run) (call 
 
   -- where the change was counted
   pub planned_falls : (new : Book) (fault : DeviceFault) → new.down ≡ Some (cause_of fault) → limits_of new ≡ limits_of old → ((live : Live) → ShowsLive old live → (cause : Cause) → can_fail live.world call cause ≡ true)
-      → ChangeFault mid n mid.next fault new.run.machine → Refuses old call (Device fault) new
+      → ChangeFault mid n mid.next fault new.tx.machine → Refuses old call (Device fault) new
   planned_falls new fault down limits can h = fall_goes old new call fault up down limits fell
     where
       fell : (live : Live) → ShowsLive old live → Fell old new live call fault
@@ -146,16 +146,16 @@ module _ (old : Book) (mid : Run) (same : mid ≡ pending_of mid old.run) (call 
           let saved = to_save old live sh mid tree n mid.next c p put x.plan.charged x.plan.chunked files x.holds in
           let room = room_for (seen (with_super mid mid.next)) tree (live.past.count + 1) (limits_of old) mid.machine put.tree shows (let h = put.low in omega arith) put.room (sh.keys ∙ sym put.bounds.room_keys) (sh.pages ∙ sym put.bounds.room_pages) in
           let step_is = x.plan.steps (spare old) in
-          elim (change_falls mid n mid.next fault new.run.machine put.ready (let f = put.few in let l = sh.light.light in let w = x.plan.light in omega arith) room h) [
+          elim (change_falls mid n mid.next fault new.tx.machine put.ready (let f = put.few in let l = sh.light.light in let w = x.plan.light in omega arith) room h) [
             | inl f ↦ record {
-              stands = old.run.machine.stable;
-              fallen = fallen_from old.run mid fault old.run.machine.stable new.run.machine same f.cause (f.stable ∙ put.stable) f.bounds;
+              stands = old.tx.machine.stable;
+              fallen = fallen_from old.tx mid fault old.tx.machine.stable new.tx.machine same f.cause (f.stable ∙ put.stable) f.bounds;
               stood = as_before sh.saved;
               can = λ cause e. can live sh cause;
             }
             | inr y ↦ record {
               stands = seen (with_super mid mid.next);
-              fallen = fallen_from old.run mid fault (seen (with_super mid mid.next)) new.run.machine same y.1.cause y.1.stable y.1.bounds;
+              fallen = fallen_from old.tx mid fault (seen (with_super mid mid.next)) new.tx.machine same y.1.cause y.1.stable y.1.bounds;
               stood = as_after n (ap (weight live.world call) step_is ∙ x.plan.weighs)
                   (ap (λ (a : After). is_boundary live.since call a.reply (Some n)) step_is ∙ (λ i. is_full (sym sh.changes i + 1) (sym sh.weight i + n)) ∙ (λ i. is_full (sym put.since i + 1) (sym put.weight i + n)) ∙ y.0)
                   (subst (λ (t : Tree). IsWhole (limits_of old) (seen (with_super mid mid.next)) t (live.past.count + 1)) (ap (λ (a : After). a.world.tree) (sym step_is)) saved);
@@ -165,9 +165,9 @@ module _ (old : Book) (mid : Run) (same : mid ≡ pending_of mid old.run) (call 
 
 -- before any of the change was counted
 pub early_falls : (old new : Book) (call : Call) (m : ℕ) (fault : DeviceFault) → old.down ≡ None → new.down ≡ Some (cause_of fault) → limits_of new ≡ limits_of old → ((live : Live) → ShowsLive old live → (cause : Cause) → can_fail live.world call cause ≡ true)
-    → ((live : Live) → ShowsLive old live → m ≤ 260) → Fails old.run m fault new.run.machine → Refuses old call (Device fault) new
+    → ((live : Live) → ShowsLive old live → m ≤ 260) → Fails old.tx m fault new.tx.machine → Refuses old call (Device fault) new
 early_falls old new call m fault up down limits can few h = fall_goes old new call fault up down limits (λ live sh. record {
-  stands = old.run.machine.stable;
+  stands = old.tx.machine.stable;
   fallen = h.fallen sh.light.ready (let a = few live sh in let b = sh.light.few in let c = sh.light.light in omega arith);
   stood = as_before sh.saved;
   can = λ cause e. can live sh cause;
@@ -175,10 +175,10 @@ early_falls old new call m fault up down limits can few h = fall_goes old new ca
 
 -- before anything was asked of the transaction but to read
 pub unread_at : (old new : Book) (call : Call) (fault : DeviceFault) → old.down ≡ None → new.down ≡ Some (cause_of fault) → limits_of new ≡ limits_of old → ((live : Live) → ShowsLive old live → (cause : Cause) → can_fail live.world call cause ≡ true)
-    → GetFault old.run fault new.run.machine → Refuses old call (Device fault) new
+    → GetFault old.tx fault new.tx.machine → Refuses old call (Device fault) new
 unread_at old new call fault up down limits can h = fall_goes old new call fault up down limits (λ live sh. record {
-  stands = old.run.machine.stable;
-  fallen = get_falls old.run fault new.run.machine sh.light.ready h;
+  stands = old.tx.machine.stable;
+  fallen = get_falls old.tx fault new.tx.machine sh.light.ready h;
   stood = as_before sh.saved;
   can = λ cause e. can live sh cause;
 })

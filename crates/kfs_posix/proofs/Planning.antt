@@ -7,9 +7,9 @@ use Rattle.kfs_model.specs.declared.Line.TheVariants as lines
 use Rattle.kfs_model.specs.declared.Answer.TheVariants as answers
 use Rattle.kfs_model.specs.Life.{State, Now, Up, Down, Live, EventAt}
 use Rattle.kfs_shows.specs.Shows.{Shows}
-use Rattle.kfs_tx.specs.Run.{Run, seen}
+use Rattle.kfs_tx.specs.Tx.{Tx, seen}
 use Rattle.kfs_path.specs.declared.call.Cause.{Cause}
-use Rattle.kfs_core.specs.Core.{KfsState, run_in, Stays}
+use Rattle.kfs_core.specs.Core.{KfsState, tx_in, Stays}
 use Rattle.kfs_posix.specs.Opens.{Opens}
 use Rattle.kfs_posix.specs.Book.{Book, SessionState, state_of, book_of, limits_of}
 use Rattle.kfs_posix.proofs.Fault.{stays_book}
@@ -17,27 +17,27 @@ use Rattle.kfs_posix.specs.Showing.{ShowsLive, ShowsNow, ShowsState, GoesOn, IsS
 use Rattle.std.proofs.Math.Logic.{∥∥₁_map}
 
 -- other bounds on the counts
-abbrev bounded : Run → ℕ → ℕ → Run
+abbrev bounded : Tx → ℕ → ℕ → Tx
 bounded r cuts faults = record r { machine = record r.machine { most_cuts = cuts; most_faults = faults } }
 
-abbrev pub planned_run : Run → Run
+abbrev pub planned_run : Tx → Tx
 planned_run r = record r { machine = with_most_cuts r.machine }
 
-abbrev pub failing_run : Run → ℕ → Run
+abbrev pub failing_run : Tx → ℕ → Tx
 failing_run r most = record r { machine = with_most_faults r.machine most }
 
-same_seen : (r : Run) (cuts faults : ℕ) → seen (bounded r cuts faults) ≡ seen r
+same_seen : (r : Tx) (cuts faults : ℕ) → seen (bounded r cuts faults) ≡ seen r
 unfolding view
 same_seen r cuts faults = refl
 
 abbrev bounded_book : Book → ℕ → ℕ → Book
-bounded_book b cuts faults = record b { run = bounded b.run cuts faults }
+bounded_book b cuts faults = record b { tx = bounded b.tx cuts faults }
 
 abbrev planned_book : Book → Book
-planned_book b = record b { run = planned_run b.run }
+planned_book b = record b { tx = planned_run b.tx }
 
 abbrev failing_book : Book → ℕ → Book
-failing_book b most = record b { run = failing_run b.run most }
+failing_book b most = record b { tx = failing_run b.tx most }
 
 still_live : (b : Book) (cuts faults : ℕ) (live : Live) → ShowsLive b live → ShowsLive (bounded_book b cuts faults) live
 still_live b cuts faults live sh = record {
@@ -45,7 +45,7 @@ still_live b cuts faults live sh = record {
   tree = sh.tree;
   low = sh.low;
   few_changes = sh.few_changes;
-  sees = subst (λ m. Shows m live.world.tree live.past.count) (sym (same_seen b.run cuts faults)) sh.sees;
+  sees = subst (λ m. Shows m live.world.tree live.past.count) (sym (same_seen b.tx cuts faults)) sh.sees;
   saved = sh.saved;
   newest = sh.newest;
   behind = sh.behind;
@@ -67,12 +67,12 @@ still_shows : (b : Book) (cuts faults : ℕ) (now : Now) → ShowsNow b now → 
 still_shows b cuts faults (Up live) sh = still_live b cuts faults live sh
 still_shows b cuts faults (Down past may) sh = record { cause = sh.cause; down = sh.down; stands = sh.stands; may_be = sh.may_be; saved = sh.saved; keys = sh.keys; pages = sh.pages }
 
-pub plan_goes : (b : Book) (n how : ℕ) → b.run.machine.cuts + 1 < 2 ^ 63 → GoesOn b (lines.Cut n how) (answers.Reply replies.Done) (planned_book b)
+pub plan_goes : (b : Book) (n how : ℕ) → b.tx.machine.cuts + 1 < 2 ^ 63 → GoesOn b (lines.Cut n how) (answers.Reply replies.Done) (planned_book b)
 plan_goes b n how few = record { each = λ s fits. by s s.now fits.now }
   where
     shown : (s : State) → ShowsState b s → (now : Now) → ShowsNow b now → ShowsState (planned_book b) (record { now = now; cut_armed = true; fail_armed = s.fail_armed })
     shown s showing now sh = record {
-      now = still_shows b (with_most_cuts b.run.machine).most_cuts b.run.machine.most_faults now sh;
+      now = still_shows b (with_most_cuts b.tx.machine).most_cuts b.tx.machine.most_faults now sh;
       cuts = omega arith;
       faults = showing.faults;
       most_cuts = let h = showing.most_cuts in let f = showing.few_cuts in omega arith;
@@ -82,22 +82,22 @@ plan_goes b n how few = record { each = λ s fits. by s s.now fits.now }
     }
 
     by : (s : State) (now : Now) → ShowsNow b now → (t : State) × EventAt (limits_of b) s now (lines.Cut n how) (answers.Reply replies.Done) t × ShowsNow (planned_book b) t.now × (ShowsState b s → ShowsState (planned_book b) t)
-    by s (Up live) sh = (record { now = Up live; cut_armed = true; fail_armed = s.fail_armed }, (refl, refl), still_shows b (with_most_cuts b.run.machine).most_cuts b.run.machine.most_faults (Up live) sh, λ showing. shown s showing (Up live) sh)
-    by s (Down past may) sh = (record { now = Down past may; cut_armed = true; fail_armed = s.fail_armed }, (refl, refl), still_shows b (with_most_cuts b.run.machine).most_cuts b.run.machine.most_faults (Down past may) sh, λ showing. shown s showing (Down past may) sh)
+    by s (Up live) sh = (record { now = Up live; cut_armed = true; fail_armed = s.fail_armed }, (refl, refl), still_shows b (with_most_cuts b.tx.machine).most_cuts b.tx.machine.most_faults (Up live) sh, λ showing. shown s showing (Up live) sh)
+    by s (Down past may) sh = (record { now = Down past may; cut_armed = true; fail_armed = s.fail_armed }, (refl, refl), still_shows b (with_most_cuts b.tx.machine).most_cuts b.tx.machine.most_faults (Down past may) sh, λ showing. shown s showing (Down past may) sh)
 
-pub plan_by : (old : SessionState) (k0 k1 : KfsState) (o : Opens) (d : Option Cause) (n how : ℕ) → state_of k0 o d ≡ old → Stays k0 k1 → run_in k1 ≡ planned_run (run_in k0) → old.book.run.machine.cuts + 1 < 2 ^ 63 → GoesOn old.book (lines.Cut n how) (answers.Reply replies.Done) (book_of k1 o d)
+pub plan_by : (old : SessionState) (k0 k1 : KfsState) (o : Opens) (d : Option Cause) (n how : ℕ) → state_of k0 o d ≡ old → Stays k0 k1 → tx_in k1 ≡ planned_run (tx_in k0) → old.book.tx.machine.cuts + 1 < 2 ^ 63 → GoesOn old.book (lines.Cut n how) (answers.Reply replies.Done) (book_of k1 o d)
 plan_by old k0 k1 o d n how is rest planned few =
-    let e : book_of k1 o d ≡ planned_book (book_of k0 o d) = stays_book k0 k1 o d rest ∙ (λ i. record (book_of k0 o d) { run = planned i }) in
-    let low : (run_in k0).machine.cuts + 1 < 2 ^ 63 = subst (λ (s : SessionState). s.book.run.machine.cuts + 1 < 2 ^ 63) (sym is) few in
+    let e : book_of k1 o d ≡ planned_book (book_of k0 o d) = stays_book k0 k1 o d rest ∙ (λ i. record (book_of k0 o d) { tx = planned i }) in
+    let low : (tx_in k0).machine.cuts + 1 < 2 ^ 63 = subst (λ (s : SessionState). s.book.tx.machine.cuts + 1 < 2 ^ 63) (sym is) few in
     subst (λ (s : SessionState). GoesOn s.book (lines.Cut n how) (answers.Reply replies.Done) (book_of k1 o d)) is
     (subst (λ c. GoesOn (book_of k0 o d) (lines.Cut n how) (answers.Reply replies.Done) c) (sym e) (plan_goes (book_of k0 o d) n how low))
 
-pub fail_goes : (b : Book) (kind n most : ℕ) → b.run.machine.faults ≤ most → most ≤ one_more b.run.machine.faults → b.run.machine.faults + 1 < 2 ^ 63 → GoesOn b (lines.Fail kind n) (answers.Reply replies.Done) (failing_book b most)
+pub fail_goes : (b : Book) (kind n most : ℕ) → b.tx.machine.faults ≤ most → most ≤ one_more b.tx.machine.faults → b.tx.machine.faults + 1 < 2 ^ 63 → GoesOn b (lines.Fail kind n) (answers.Reply replies.Done) (failing_book b most)
 fail_goes b kind n most fewest least few = record { each = λ s fits. by s s.now fits.now }
   where
     shown : (s : State) → ShowsState b s → (now : Now) → ShowsNow b now → ShowsState (failing_book b most) (record { now = now; cut_armed = s.cut_armed; fail_armed = true })
     shown s showing now sh = record {
-      now = still_shows b b.run.machine.most_cuts most now sh;
+      now = still_shows b b.tx.machine.most_cuts most now sh;
       cuts = showing.cuts;
       faults = omega arith;
       most_cuts = showing.most_cuts;
@@ -107,14 +107,14 @@ fail_goes b kind n most fewest least few = record { each = λ s fits. by s s.now
     }
 
     by : (s : State) (now : Now) → ShowsNow b now → (t : State) × EventAt (limits_of b) s now (lines.Fail kind n) (answers.Reply replies.Done) t × ShowsNow (failing_book b most) t.now × (ShowsState b s → ShowsState (failing_book b most) t)
-    by s (Up live) sh = (record { now = Up live; cut_armed = s.cut_armed; fail_armed = true }, (refl, refl), still_shows b b.run.machine.most_cuts most (Up live) sh, λ showing. shown s showing (Up live) sh)
-    by s (Down past may) sh = (record { now = Down past may; cut_armed = s.cut_armed; fail_armed = true }, (refl, refl), still_shows b b.run.machine.most_cuts most (Down past may) sh, λ showing. shown s showing (Down past may) sh)
+    by s (Up live) sh = (record { now = Up live; cut_armed = s.cut_armed; fail_armed = true }, (refl, refl), still_shows b b.tx.machine.most_cuts most (Up live) sh, λ showing. shown s showing (Up live) sh)
+    by s (Down past may) sh = (record { now = Down past may; cut_armed = s.cut_armed; fail_armed = true }, (refl, refl), still_shows b b.tx.machine.most_cuts most (Down past may) sh, λ showing. shown s showing (Down past may) sh)
 
-pub fail_by : (old : SessionState) (k0 k1 : KfsState) (o : Opens) (d : Option Cause) (kind n most : ℕ) → state_of k0 o d ≡ old → Stays k0 k1 → run_in k1 ≡ failing_run (run_in k0) most
-    → (run_in k0).machine.faults ≤ most → most ≤ one_more (run_in k0).machine.faults → old.book.run.machine.faults + 1 < 2 ^ 63 → GoesOn old.book (lines.Fail kind n) (answers.Reply replies.Done) (book_of k1 o d)
+pub fail_by : (old : SessionState) (k0 k1 : KfsState) (o : Opens) (d : Option Cause) (kind n most : ℕ) → state_of k0 o d ≡ old → Stays k0 k1 → tx_in k1 ≡ failing_run (tx_in k0) most
+    → (tx_in k0).machine.faults ≤ most → most ≤ one_more (tx_in k0).machine.faults → old.book.tx.machine.faults + 1 < 2 ^ 63 → GoesOn old.book (lines.Fail kind n) (answers.Reply replies.Done) (book_of k1 o d)
 fail_by old k0 k1 o d kind n most is rest planned fewest least few =
-    let e : book_of k1 o d ≡ failing_book (book_of k0 o d) most = stays_book k0 k1 o d rest ∙ (λ i. record (book_of k0 o d) { run = planned i }) in
-    let low : (run_in k0).machine.faults + 1 < 2 ^ 63 = subst (λ (s : SessionState). s.book.run.machine.faults + 1 < 2 ^ 63) (sym is) few in
+    let e : book_of k1 o d ≡ failing_book (book_of k0 o d) most = stays_book k0 k1 o d rest ∙ (λ i. record (book_of k0 o d) { tx = planned i }) in
+    let low : (tx_in k0).machine.faults + 1 < 2 ^ 63 = subst (λ (s : SessionState). s.book.tx.machine.faults + 1 < 2 ^ 63) (sym is) few in
     subst (λ (s : SessionState). GoesOn s.book (lines.Fail kind n) (answers.Reply replies.Done) (book_of k1 o d)) is
     (subst (λ c. GoesOn (book_of k0 o d) (lines.Fail kind n) (answers.Reply replies.Done) c) (sym e) (fail_goes (book_of k0 o d) kind n most fewest least low))
 
@@ -124,13 +124,13 @@ fail_by old k0 k1 o d kind n most is rest planned fewest least few =
 bounded_showing : (b : Book) (cuts faults : ℕ) → IsShowing b → IsShowing (bounded_book b cuts faults)
 bounded_showing b cuts faults showing none = ∥∥₁_map (showing none) (λ x. (x.0, still_live b cuts faults x.0 x.1))
 
-pub cut_showing : (k0 k1 : KfsState) (o : Opens) (d : Option Cause) → Stays k0 k1 → run_in k1 ≡ planned_run (run_in k0) → IsShowing (book_of k0 o d) → IsShowing (book_of k1 o d)
+pub cut_showing : (k0 k1 : KfsState) (o : Opens) (d : Option Cause) → Stays k0 k1 → tx_in k1 ≡ planned_run (tx_in k0) → IsShowing (book_of k0 o d) → IsShowing (book_of k1 o d)
 cut_showing k0 k1 o d rest planned showing =
-    let e : book_of k1 o d ≡ planned_book (book_of k0 o d) = stays_book k0 k1 o d rest ∙ (λ i. record (book_of k0 o d) { run = planned i }) in
-    let m = (run_in k0).machine in
+    let e : book_of k1 o d ≡ planned_book (book_of k0 o d) = stays_book k0 k1 o d rest ∙ (λ i. record (book_of k0 o d) { tx = planned i }) in
+    let m = (tx_in k0).machine in
     subst IsShowing (sym e) (bounded_showing (book_of k0 o d) (with_most_cuts m).most_cuts m.most_faults showing)
 
-pub fail_showing : (k0 k1 : KfsState) (o : Opens) (d : Option Cause) (most : ℕ) → Stays k0 k1 → run_in k1 ≡ failing_run (run_in k0) most → IsShowing (book_of k0 o d) → IsShowing (book_of k1 o d)
+pub fail_showing : (k0 k1 : KfsState) (o : Opens) (d : Option Cause) (most : ℕ) → Stays k0 k1 → tx_in k1 ≡ failing_run (tx_in k0) most → IsShowing (book_of k0 o d) → IsShowing (book_of k1 o d)
 fail_showing k0 k1 o d most rest planned showing =
-    let e : book_of k1 o d ≡ failing_book (book_of k0 o d) most = stays_book k0 k1 o d rest ∙ (λ i. record (book_of k0 o d) { run = planned i }) in
-    subst IsShowing (sym e) (bounded_showing (book_of k0 o d) (run_in k0).machine.most_cuts most showing)
+    let e : book_of k1 o d ≡ failing_book (book_of k0 o d) most = stays_book k0 k1 o d rest ∙ (λ i. record (book_of k0 o d) { tx = planned i }) in
+    subst IsShowing (sym e) (bounded_showing (book_of k0 o d) (tx_in k0).machine.most_cuts most showing)

@@ -19,7 +19,7 @@ use Rattle.kfs_model.specs.Tree.{Tree, node_of, greatest_length}
 use Rattle.kfs_model.specs.Desk.{with_description}
 use Rattle.kfs_model.specs.Step.{settled, step, or_else, readable, is_open_dir, piece_at, content, with_desk, with_offset, is_negative, natural, greatest_count, answers as answered_by}
 use Rattle.kfs_model.specs.Life.{Live}
-use Rattle.kfs_tx.specs.Run.{seen, GetFault}
+use Rattle.kfs_tx.specs.Tx.{seen, GetFault}
 use Rattle.kfs_core.specs.Files.{Reads}
 use Rattle.kfs_core.specs.declared.fault.CoreFault.TheVariants.{No, Device}
 use Rattle.kfs_core.proofs.FileJudges.{content_is, reads_piece, reads_always}
@@ -112,27 +112,27 @@ module _ (old : Book) (fd count : ℕ) where
     pub piece : piece_at (content live.world.tree it.1.it.node) place count ≡ text
     pub low : place < 2 ^ 64 → place + length text < 2 ^ 64
 
-  pub reading : (it : ℕ × OpenFile) (place : ℕ) (text : List ℕ) → readable_in o fd count ≡ Ok it → Reads (seen old.run) it.1.it.node place count (Ok text) → (live : Live) → ShowsLive old live → IsRead live it place text
+  pub reading : (it : ℕ × OpenFile) (place : ℕ) (text : List ℕ) → readable_in o fd count ≡ Ok it → Reads (seen old.tx) it.1.it.node place count (Ok text) → (live : Live) → ShowsLive old live → IsRead live it place text
   reading it place text judged reads live sh =
       let t = live.world.tree in
       let stands = stands_of old live sh in
       let is = readable_is o fd count it judged in
       let knows = sh.holds.known it.0 it.1 (file_is o fd it is.0) in
       let file = file_bytes t it.1 knows is.1 in
-      let text_is = reads_piece (seen old.run) t stands it.1.it.node file.0 file.1 place count text reads in
+      let text_is = reads_piece (seen old.tx) t stands it.1.it.node file.0 file.1 place count text reads in
       record {
         at = is.0;
         knows = knows;
-        piece = ap (λ b. piece_at b place count) (content_is (seen old.run) t stands it.1.it.node file.0 file.1) ∙ sym text_is;
+        piece = ap (λ b. piece_at b place count) (content_is (seen old.tx) t stands it.1.it.node file.0 file.1) ∙ sym text_is;
         low = λ low. subst (λ x. place + length x < 2 ^ 64) (sym text_is) (behind file.0 place count (sh.tree.lengths it.1.it.node file.0 file.1) low);
       }
 
-  never : (it : ℕ × OpenFile) (place : ℕ) (e : Errno) → readable_in o fd count ≡ Ok it → Reads (seen old.run) it.1.it.node place count (Err (No e)) → (live : Live) → ShowsLive old live → ⊥
+  never : (it : ℕ × OpenFile) (place : ℕ) (e : Errno) → readable_in o fd count ≡ Ok it → Reads (seen old.tx) it.1.it.node place count (Err (No e)) → (live : Live) → ShowsLive old live → ⊥
   never it place e judged reads live sh =
       let t = live.world.tree in
       let is = readable_is o fd count it judged in
       let file = file_bytes t it.1 (sh.holds.known it.0 it.1 (file_is o fd it is.0)) is.1 in
-      reads_always (seen old.run) t (stands_of old live sh) it.1.it.node file.0 file.1 place count e reads
+      reads_always (seen old.tx) t (stands_of old live sh) it.1.it.node file.0 file.1 place count e reads
 
   -- ---- read
 
@@ -156,7 +156,7 @@ module _ (old : Book) (fd count : ℕ) where
   least : (n : ℕ) → n < 2 ^ 64 → min n (2 ^ 64 - 1) ≡ n
   least n low = omega arith
 
-  pub read_goes : (it : ℕ × OpenFile) (text : List ℕ) → old.down ≡ None → readable_in o fd count ≡ Ok it → Reads (seen old.run) it.1.it.node it.1.it.offset count (Ok text)
+  pub read_goes : (it : ℕ × OpenFile) (text : List ℕ) → old.down ≡ None → readable_in o fd count ≡ Ok it → Reads (seen old.tx) it.1.it.node it.1.it.offset count (Ok text)
       → GoesOn old (lines.Call (calls.Read fd count)) (answers.Reply (replies.Read text)) (record old { files = with_file o it.0 (moved it.1 text) })
   read_goes it text up judged reads = turn_goes old (with_file o it.0 (moved it.1 text)) (calls.Read fd count) (replies.Read text) (spare old) (spare_free old) up refl (λ live sh.
       let t = live.world.tree in
@@ -173,10 +173,10 @@ module _ (old : Book) (fd count : ℕ) where
       ))
 
   -- an error of the file itself never comes
-  pub read_never : (it : ℕ × OpenFile) (place : ℕ) (e : Errno) (call : Call) (reply : Reply) (new : Book) → old.down ≡ None → readable_in o fd count ≡ Ok it → Reads (seen old.run) it.1.it.node place count (Err (No e)) → GoesOn old (lines.Call call) (answers.Reply reply) new
+  pub read_never : (it : ℕ × OpenFile) (place : ℕ) (e : Errno) (call : Call) (reply : Reply) (new : Book) → old.down ≡ None → readable_in o fd count ≡ Ok it → Reads (seen old.tx) it.1.it.node place count (Err (No e)) → GoesOn old (lines.Call call) (answers.Reply reply) new
   read_never it place e call reply new up judged reads = up_goes old new call reply up (λ s live showing sh. absurd (never it place e judged reads live sh))
 
-  pub read_unread : (new : Book) (fault : DeviceFault) → old.down ≡ None → new.down ≡ Some (cause_of fault) → limits_of new ≡ limits_of old → GetFault old.run fault new.run.machine → Refuses old (calls.Read fd count) (Device fault) new
+  pub read_unread : (new : Book) (fault : DeviceFault) → old.down ≡ None → new.down ≡ Some (cause_of fault) → limits_of new ≡ limits_of old → GetFault old.tx fault new.tx.machine → Refuses old (calls.Read fd count) (Device fault) new
   read_unread new fault up down same h = read_falls old new (calls.Read fd count) fault (λ w. refl) (λ w. refl) up down same h
 
   -- ---- pread
@@ -209,7 +209,7 @@ module _ (old : Book) (fd count : ℕ) where
         by live (Ok x) true e' = let same : EINVAL ≡ e = cc in ap (λ x. record { world = world_in live.world.tree o; reply = replies.Err x }) same
         by live (Ok x) false e' = absurd (cc)
 
-    pub pread_goes : (it : ℕ × OpenFile) (text : List ℕ) → old.down ≡ None → readable_at o fd count offset ≡ Ok it → Reads (seen old.run) it.1.it.node (natural offset) count (Ok text)
+    pub pread_goes : (it : ℕ × OpenFile) (text : List ℕ) → old.down ≡ None → readable_at o fd count offset ≡ Ok it → Reads (seen old.tx) it.1.it.node (natural offset) count (Ok text)
         → GoesOn old (lines.Call (calls.Pread fd count offset)) (answers.Reply (replies.Read text)) old
     pread_goes it text up judged reads = idle_goes old (calls.Pread fd count offset) (replies.Read text) up (λ w x. refl) refl (λ live sh.
         let t = live.world.tree in
@@ -220,7 +220,7 @@ module _ (old : Book) (fd count : ℕ) where
         ∙ (λ i. settled w (as_described (both.0 i) >>= λ it. (EINVAL when both.1 i) >> answered_by w (replies.Read (piece_at (content t it.1.node) (natural offset) count))))
         ∙ (λ i. record { world = record { tree = t; desk = sym sh.desk i }; reply = replies.Read (x.piece i) }))
 
-    pub pread_unread : (new : Book) (fault : DeviceFault) → old.down ≡ None → new.down ≡ Some (cause_of fault) → limits_of new ≡ limits_of old → GetFault old.run fault new.run.machine → Refuses old (calls.Pread fd count offset) (Device fault) new
+    pub pread_unread : (new : Book) (fault : DeviceFault) → old.down ≡ None → new.down ≡ Some (cause_of fault) → limits_of new ≡ limits_of old → GetFault old.tx fault new.tx.machine → Refuses old (calls.Pread fd count offset) (Device fault) new
     pread_unread new fault up down same h = read_falls old new (calls.Pread fd count offset) fault (λ w. refl) (λ w. refl) up down same h
 
     pub pread_first : (it : ℕ × OpenFile) → readable_at o fd count offset ≡ Ok it → readable_in o fd count ≡ Ok it

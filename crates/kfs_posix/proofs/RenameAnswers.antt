@@ -12,11 +12,11 @@ use Rattle.kfs_model.specs.Ladder.{◌>>=◌}
 use Rattle.kfs_model.specs.Step.{Route, syntax}
 use Rattle.kfs_model.specs.declared.Line.TheVariants as lines
 use Rattle.kfs_model.specs.declared.Answer.TheVariants as answers
-use Rattle.kfs_tx.specs.Run.{Run, age_of, seen, one_change}
+use Rattle.kfs_tx.specs.Tx.{Tx, age_of, seen, one_change}
 use Rattle.kfs_core.specs.declared.fault.CoreFault.{CoreFault}
 use Rattle.kfs_core.specs.declared.fault.CoreFault.TheVariants.{No, Device}
 use Rattle.kfs_core.specs.declared.renaming.Move.{Move}
-use Rattle.kfs_core.specs.Core.{KfsState, run_in}
+use Rattle.kfs_core.specs.Core.{KfsState, tx_in}
 use Rattle.kfs_core.specs.Removing.{is_open_in}
 use Rattle.kfs_core.specs.Renaming.{MovesTo, MoveFault, RenameFails, with_moved, chunks_replaced, keys_replaced, replaced_node}
 use Rattle.kfs_posix.specs.Opens.{Opens, nodes_of}
@@ -38,9 +38,9 @@ pub rename_not_done : (old new : KfsState) (o : Opens) (p q : List ℕ) (from to
 rename_not_done old new o p q from to judge nodes (No e) a b is (judged, same) = ((λ i. a i >>= λ f. b i >>= λ g. judge f g) ∙ judged, same, refl)
 rename_not_done old new o p q from to judge nodes (Device f) a b is (stays, inl unread) = (stays, refl, inl unread)
 rename_not_done old new o p q from to judge nodes (Device fault) a b is (stays, inr (move, judged, fell)) =
-    (stays, refl, inr (move, (λ i. a i >>= λ f. b i >>= λ g. judge f g) ∙ judged, subst (λ ns. MoveFault (run_in old) move (is_open_in ns) fault (run_in new).machine) is fell))
+    (stays, refl, inr (move, (λ i. a i >>= λ f. b i >>= λ g. judge f g) ∙ judged, subst (λ ns. MoveFault (tx_in old) move (is_open_in ns) fault (tx_in new).machine) is fell))
 
-module _ (old : SessionState) (k0 k1 : KfsState) (o o1 : Opens) (d : Option Cause) (is : state_of k0 o d ≡ old) (up : d ≡ None) (awake : (run_in k0).machine.up ≡ true) (age : age_of (running_in old) < 2 ^ 63 - 2 ^ 40) (from to : List ℕ) where
+module _ (old : SessionState) (k0 k1 : KfsState) (o o1 : Opens) (d : Option Cause) (is : state_of k0 o d ≡ old) (up : d ≡ None) (awake : (tx_in k0).machine.up ≡ true) (age : age_of (running_in old) < 2 ^ 63 - 2 ^ 40) (from to : List ℕ) where
   abbrev b : Book
   b = book_of k0 o d
 
@@ -48,35 +48,35 @@ module _ (old : SessionState) (k0 k1 : KfsState) (o o1 : Opens) (d : Option Caus
   call = calls.Rename from to
 
   abbrev judge : Result (Option Move) Errno
-  judge = rename_by (seen (run_in k0)) from to
+  judge = rename_by (seen (tx_in k0)) from to
 
   pub rename_answered : Renamed k0 o judge k1 o1 → Happens old call replies.Done k1 o1 d
   rename_answered h = by h.move h.judge h.effect h.files_are
     where
       by : (x : Option Move) → judge ≡ Ok x → MovesTo k0 x (open_now o) k1 → o1 ≡ without_replaced o (option_and_then replaced_node x) → Happens old call replies.Done k1 o1 d
       by None judged same files =
-          answered old k0 k1 o o1 d is up call replies.Done done_plain (run_in k0) k0.charge k0.chunks o (same_machine (run_in k0))
-          (ap run_in same) (ap (λ (k : KfsState). k.charge) same) (ap (λ (k : KfsState). k.chunks) same) (ap (λ (k : KfsState). k.keys) same) (ap (λ (k : KfsState). k.pages) same) files
+          answered old k0 k1 o o1 d is up call replies.Done done_plain (tx_in k0) k0.charge k0.chunks o (same_machine (tx_in k0))
+          (ap tx_in same) (ap (λ (k : KfsState). k.charge) same) (ap (λ (k : KfsState). k.chunks) same) (ap (λ (k : KfsState). k.keys) same) (ap (λ (k : KfsState). k.pages) same) files
           (rename_rest b from to up judged)
       by (Some move) judged (moves, frees) files =
           let n = 4 + chunks_replaced move.replaced (open_now o) in
           answered old k0 k1 o o1 d is up call replies.Done done_plain (one_change (with_moved moves.mid move) n moves.mid.next) (k0.charge - keys_replaced move.replaced (open_now o)) (k0.chunks - chunks_replaced move.replaced (open_now o))
           (without_replaced o (replaced_node move))
-          (changed_same (run_in k0) (with_moved moves.mid move) (moved_same (run_in k0) move (open_now o) moves.mid moves.replaces) n moves.mid.next)
+          (changed_same (tx_in k0) (with_moved moves.mid move) (moved_same (tx_in k0) move (open_now o) moves.mid moves.replaces) n moves.mid.next)
           moves.change (ap (λ (k : KfsState). k.charge) frees) (ap (λ (k : KfsState). k.chunks) frees) (ap (λ (k : KfsState). k.keys) frees) (ap (λ (k : KfsState). k.pages) frees) files
           (rename_goes b from to up move judged (low_count old k0 o d is age) moves.mid moves.replaces)
 
   pub rename_failed : (fault : CoreFault) (reply : Reply) (d1 : Option Cause) → NotRenamed k0 o judge fault k1 o1 → reply ≡ refusal fault → d1 ≡ down_after d fault → Fails old call fault reply k1 o1 d1
   rename_failed (No e) reply d1 h reply_is down =
-      let machine = ap (λ (k : KfsState). (run_in k).machine) h.1 in
+      let machine = ap (λ (k : KfsState). (tx_in k).machine) h.1 in
       failed old k0 k1 o o1 d is up call (No e) reply d1 reply_is down (ap (λ (k : KfsState). k.charge) h.1) (ap (λ (k : KfsState). k.chunks) h.1) (ap (λ (k : KfsState). k.keys) h.1) (ap (λ (k : KfsState). k.pages) h.1) h.2
       (ap (λ (m : Machine). m.cuts) machine, ap (λ (m : Machine). m.faults) machine)
-      (errs b (record b { run = run_in k1 }) call e (subst (λ (r : Run). GoesOn b (lines.Call call) (answers.Reply (replies.Err e)) (record b { run = r })) (sym (ap run_in h.1)) (rename_no b from to up e h.0)))
+      (errs b (record b { tx = tx_in k1 }) call e (subst (λ (r : Tx). GoesOn b (lines.Call call) (answers.Reply (replies.Err e)) (record b { tx = r })) (sym (ap tx_in h.1)) (rename_no b from to up e h.0)))
   rename_failed (Device f) reply d1 (stays, files, inl unread) reply_is down =
       failed old k0 k1 o o1 d is up call (Device f) reply d1 reply_is down (ap (λ (k : KfsState). k.charge) stays) (ap (λ (k : KfsState). k.chunks) stays) (ap (λ (k : KfsState). k.keys) stays) (ap (λ (k : KfsState). k.pages) stays) files
-      (caused_counts (run_in k0).machine f (run_in k1).machine awake (alone_caused (run_in k0).machine f (run_in k1).machine unread.1))
-      (rename_unread b from to up (record b { run = run_in k1; down = Some (cause_of f) }) f refl refl unread)
+      (caused_counts (tx_in k0).machine f (tx_in k1).machine awake (alone_caused (tx_in k0).machine f (tx_in k1).machine unread.1))
+      (rename_unread b from to up (record b { tx = tx_in k1; down = Some (cause_of f) }) f refl refl unread)
   rename_failed (Device f) reply d1 (stays, files, inr (move, judged, fell)) reply_is down =
       failed old k0 k1 o o1 d is up call (Device f) reply d1 reply_is down (ap (λ (k : KfsState). k.charge) stays) (ap (λ (k : KfsState). k.chunks) stays) (ap (λ (k : KfsState). k.keys) stays) (ap (λ (k : KfsState). k.pages) stays) files
-      (caused_counts (run_in k0).machine f (run_in k1).machine awake (rename_caused (run_in k0) move (open_now o) f (run_in k1).machine fell))
-      (rename_falls b from to up move judged (low_count old k0 o d is age) (record b { run = run_in k1; down = Some (cause_of f) }) f refl refl fell)
+      (caused_counts (tx_in k0).machine f (tx_in k1).machine awake (rename_caused (tx_in k0) move (open_now o) f (tx_in k1).machine fell))
+      (rename_falls b from to up move judged (low_count old k0 o d is age) (record b { tx = tx_in k1; down = Some (cause_of f) }) f refl refl fell)

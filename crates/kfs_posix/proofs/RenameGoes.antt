@@ -14,7 +14,7 @@ use Rattle.kfs_model.specs.Desk.{Desk, is_open}
 use Rattle.kfs_model.specs.Step.{World, After, Route, syntax, settled, swept, rename}
 use Rattle.kfs_model.specs.Change.{weight, has_left}
 use Rattle.kfs_model.specs.Life.{Live}
-use Rattle.kfs_tx.specs.Run.{Run, Caused, GetFault, seen, one_change}
+use Rattle.kfs_tx.specs.Tx.{Tx, Caused, GetFault, seen, one_change}
 use Rattle.kfs_file.specs.Contents.{pending_of}
 use Rattle.kfs_core.specs.declared.removing.Leaf.{Leaf}
 use Rattle.kfs_core.specs.declared.renaming.Move.{Move}
@@ -66,19 +66,19 @@ moved_holds t o p q move tree is holds = by move.replaced refl
         node_of_some e = rw e refl
 
 -- only the pending changes are others
-loses_same : (r : Run) (n size : ℕ) (b : Bool) (mid : Run) → Loses r n size b mid → mid ≡ pending_of mid r
-loses_same r n size true mid h = subst (λ (x : Run). x ≡ pending_of x r) (sym h) refl
+loses_same : (r : Tx) (n size : ℕ) (b : Bool) (mid : Tx) → Loses r n size b mid → mid ≡ pending_of mid r
+loses_same r n size true mid h = subst (λ (x : Tx). x ≡ pending_of x r) (sym h) refl
 loses_same r n size false mid h = (goes_follows r mid n size h).same
 
-replaces_same : (r : Run) (x : Option Leaf) (is_open : ℕ → Bool) (mid : Run) → Replaces r x is_open mid → mid ≡ pending_of mid r
-replaces_same r None is_open mid h = subst (λ (x : Run). x ≡ pending_of x r) (sym h) refl
+replaces_same : (r : Tx) (x : Option Leaf) (is_open : ℕ → Bool) (mid : Tx) → Replaces r x is_open mid → mid ≡ pending_of mid r
+replaces_same r None is_open mid h = subst (λ (x : Tx). x ≡ pending_of x r) (sym h) refl
 replaces_same r (Some leaf) is_open mid h = loses_same r leaf.node leaf.size (is_open leaf.node) mid h
 
-pub moved_same : (r : Run) (move : Move) (is_open : ℕ → Bool) (mid : Run) → Replaces r move.replaced is_open mid → with_moved mid move ≡ pending_of (with_moved mid move) r
-moved_same r move is_open mid h = ap (λ (x : Run). record x { machine = record x.machine { pending = (with_moved mid move).machine.pending } }) (replaces_same r move.replaced is_open mid h)
+pub moved_same : (r : Tx) (move : Move) (is_open : ℕ → Bool) (mid : Tx) → Replaces r move.replaced is_open mid → with_moved mid move ≡ pending_of (with_moved mid move) r
+moved_same r move is_open mid h = ap (λ (x : Tx). record x { machine = record x.machine { pending = (with_moved mid move).machine.pending } }) (replaces_same r move.replaced is_open mid h)
 
 -- the fault of a move has a cause from outside
-pub rename_caused : (r : Run) (move : Move) (is_open : ℕ → Bool) (fault : DeviceFault) (new : Machine) → MoveFault r move is_open fault new → Caused r.machine fault new
+pub rename_caused : (r : Tx) (move : Move) (is_open : ℕ → Bool) (fault : DeviceFault) (new : Machine) → MoveFault r move is_open fault new → Caused r.machine fault new
 rename_caused r move is_open fault new (inl h) = h.cause
 rename_caused r move is_open fault new (inr (mid, does, h)) = change_caused r (with_moved mid move) (4 + chunks_replaced move.replaced is_open) mid.next fault new (moved_same r move is_open mid does) h
 
@@ -95,30 +95,30 @@ module _ (old : Book) (from to : List ℕ) (up : old.down ≡ None) where
   call = calls.Rename from to
 
   abbrev pub judge : Result (Option Move) Errno
-  judge = rename_by (seen old.run) from to
+  judge = rename_by (seen old.tx) from to
 
-  routes : (x : Option Move) → judge ≡ Ok x → (f : Route) × (g : Route) × (syntax from ≡ Ok f) × (syntax to ≡ Ok g) × (rename_in (seen old.run) f g ≡ Ok x)
+  routes : (x : Option Move) → judge ≡ Ok x → (f : Route) × (g : Route) × (syntax from ≡ Ok f) × (syntax to ≡ Ok g) × (rename_in (seen old.tx) f g ≡ Ok x)
   routes x is =
-      let a = ok_bind (syntax from) (λ f. syntax to >>= λ g. rename_in (seen old.run) f g) x is in
-      let b = ok_bind (syntax to) (λ g. rename_in (seen old.run) a.0 g) x a.2 in
+      let a = ok_bind (syntax from) (λ f. syntax to >>= λ g. rename_in (seen old.tx) f g) x is in
+      let b = ok_bind (syntax to) (λ g. rename_in (seen old.tx) a.0 g) x a.2 in
       (a.0, b.0, a.1, b.1, b.2)
 
   -- both paths name one place
   pub rename_rest : judge ≡ Ok None → GoesOn old (lines.Call call) (answers.Reply replies.Done) old
   rename_rest is = turn_goes old old.files call replies.Done (spare old) (spare_free old) up refl (λ live sh.
       let at = routes None is in
-      let rests = rename_rests old.run sh.light.ready (limits_of old) live.world (world_shown old live sh) (reach old from live sh) sh.room old.charge old.chunks sh.charged sh.chunked from to at.0 at.1 at.2 at.3 at.4 in (
+      let rests = rename_rests old.tx sh.light.ready (limits_of old) live.world (world_shown old live sh) (reach old from live sh) sh.room old.charge old.chunks sh.charged sh.chunked from to at.0 at.1 at.2 at.3 at.4 in (
         rests.0 (spare old) ∙ (λ i. record { world = record { tree = live.world.tree; desk = sh.desk i }; reply = replies.Done }),
         (λ i. weight live.world call (record { world = record { tree = live.world.tree; desk = sym sh.desk i }; reply = replies.Done })) ∙ rests.1,
         sh.holds,
       ))
 
   pub rename_no : (e : Errno) → judge ≡ Err e → GoesOn old (lines.Call call) (answers.Reply (replies.Err e)) old
-  rename_no e is = idle_goes old call (replies.Err e) up (no_weight from to e) refl (λ live sh. elim (err_bind (syntax from) (λ f. syntax to >>= λ g. rename_in (seen old.run) f g) e is) [
+  rename_no e is = idle_goes old call (replies.Err e) up (no_weight from to e) refl (λ live sh. elim (err_bind (syntax from) (λ f. syntax to >>= λ g. rename_in (seen old.tx) f g) e is) [
     | inl none ↦ rw none refl
-    | inr x ↦ elim (err_bind (syntax to) (λ g. rename_in (seen old.run) x.0 g) e x.2) [
+    | inr x ↦ elim (err_bind (syntax to) (λ g. rename_in (seen old.tx) x.0 g) e x.2) [
       | inl none ↦ rw (x.1, none) refl
-      | inr y ↦ rename_refused old.run sh.light.ready (limits_of old) live.world (world_shown old live sh) (reach old from live sh) sh.room old.charge old.chunks sh.charged sh.chunked from to x.0 y.0 x.1 y.1 e y.2 (spare old)
+      | inr y ↦ rename_refused old.tx sh.light.ready (limits_of old) live.world (world_shown old live sh) (reach old from live sh) sh.room old.charge old.chunks sh.charged sh.chunked from to x.0 y.0 x.1 y.1 e y.2 (spare old)
     ]
   ])
 
@@ -135,38 +135,38 @@ module _ (old : Book) (from to : List ℕ) (up : old.down ≡ None) where
     abbrev files : Opens
     files = without_replaced old.files (replaced_node move)
 
-    ways : (live : Live) (sh : ShowsLive old live) → (x : After) × (rename live.world from to ≡ Ok x) × MovesPath (seen old.run) live.world.tree (stands_of old live sh) live.world.desk from x (Some move)
+    ways : (live : Live) (sh : ShowsLive old live) → (x : After) × (rename live.world from to ≡ Ok x) × MovesPath (seen old.tx) live.world.tree (stands_of old live sh) live.world.desk from x (Some move)
     ways live sh =
         let at = routes (Some move) is in
         let t = live.world.tree in
         let stands = stands_of old live sh in
-        of_ok (MovesPath (seen old.run) t stands live.world.desk from) (rename live.world from to) (rename_in (seen old.run) at.0 at.1) (Some move) (rename_same (seen old.run) t stands live.world.desk from to at.0 at.1 at.2 at.3) at.4
+        of_ok (MovesPath (seen old.tx) t stands live.world.desk from) (rename live.world from to) (rename_in (seen old.tx) at.0 at.1) (Some move) (rename_same (seen old.tx) t stands live.world.desk from to at.0 at.1 at.2 at.3) at.4
 
-    planned : (mid : Run) → Replaces old.run move.replaced (open_now old.files) mid → (live : Live) → ShowsLive old live → Planned old (with_moved mid move) call files n c p live
+    planned : (mid : Tx) → Replaces old.tx move.replaced (open_now old.files) mid → (live : Live) → ShowsLive old live → Planned old (with_moved mid move) call files n c p live
     planned mid does live sh =
         let o = old.files in
         let t = live.world.tree in
         let at = routes (Some move) is in
         let desk_is : live.world.desk ≡ desk_of files = sh.desk ∙ sym (replaced_desk o (replaced_node move)) in
-        let plan = subst (λ (desk : Desk). Plan old.run (with_moved mid move) (limits_of old) live.world desk call n c p) desk_is
-        (rename_plan old.run sh.light.ready (limits_of old) live.world (world_shown old live sh) (reach old from live sh) sh.room old.charge old.chunks sh.charged sh.chunked (open_now o) (listed old from live sh) from to at.0 at.1 at.2 at.3 move at.4 mid does) in
+        let plan = subst (λ (desk : Desk). Plan old.tx (with_moved mid move) (limits_of old) live.world desk call n c p) desk_is
+        (rename_plan old.tx sh.light.ready (limits_of old) live.world (world_shown old live sh) (reach old from live sh) sh.room old.charge old.chunks sh.charged sh.chunked (open_now o) (listed old from live sh) from to at.0 at.1 at.2 at.3 move at.4 mid does) in
         let it = ways live sh in
         let tree_is : (swept (world_in (renamed (without_place t it.2.1) it.2.0 it.2.1) o)).tree ≡ plan.world.tree =
         (λ i. (swept (record { tree = renamed (without_place t it.2.1) it.2.0 it.2.1; desk = sym sh.desk i })).tree) ∙ ap (λ (a : After). a.world.tree) (sym (ap (settled live.world) it.1 ∙ it.2.4) ∙ plan.steps 0) in
         record { plan = plan; holds = subst (Holds files) tree_is (moved_holds t o it.2.0 it.2.1 move sh.tree it.2.2 sh.holds) }
 
-    module _ (count : old.run.changes + 1 < 2 ^ 63) where
-      pub rename_goes : (mid : Run) → Replaces old.run move.replaced (open_now old.files) mid → GoesOn old (lines.Call call) (answers.Reply replies.Done) (record old { run = one_change (with_moved mid move) n mid.next; charge = c; chunks = p; files = files })
-      rename_goes mid does = planned_goes old (with_moved mid move) (moved_same old.run move (open_now old.files) mid does) call files n c p count up (planned mid does)
+    module _ (count : old.tx.changes + 1 < 2 ^ 63) where
+      pub rename_goes : (mid : Tx) → Replaces old.tx move.replaced (open_now old.files) mid → GoesOn old (lines.Call call) (answers.Reply replies.Done) (record old { tx = one_change (with_moved mid move) n mid.next; charge = c; chunks = p; files = files })
+      rename_goes mid does = planned_goes old (with_moved mid move) (moved_same old.tx move (open_now old.files) mid does) call files n c p count up (planned mid does)
 
-      pub rename_falls : (new : Book) (fault : DeviceFault) → new.down ≡ Some (cause_of fault) → limits_of new ≡ limits_of old → MoveFault old.run move (open_now old.files) fault new.run.machine
+      pub rename_falls : (new : Book) (fault : DeviceFault) → new.down ≡ Some (cause_of fault) → limits_of new ≡ limits_of old → MoveFault old.tx move (open_now old.files) fault new.tx.machine
           → Refuses old call (Device fault) new
       rename_falls new fault down limits (inl h) = early_falls old new call (3 + chunks_replaced move.replaced (open_now old.files)) fault up down limits (λ live sh cause. any_cause live.world call refl refl refl cause) (λ live sh.
           let it = ways live sh in
-          let l = move_light old.run sh.light.ready (limits_of old) live.world (world_shown old live sh) (reach old from live sh) sh.room old.charge old.chunks sh.charged sh.chunked it.2.0 it.2.1 move it.2.2 (open_now old.files) in
+          let l = move_light old.tx sh.light.ready (limits_of old) live.world (world_shown old live sh) (reach old from live sh) sh.room old.charge old.chunks sh.charged sh.chunked it.2.0 it.2.1 move it.2.2 (open_now old.files) in
           omega arith) h
       rename_falls new fault down limits (inr (mid, does, h)) =
-          planned_falls old (with_moved mid move) (moved_same old.run move (open_now old.files) mid does) call files n c p count up (planned mid does) new fault down limits (λ live sh cause. any_cause live.world call refl refl refl cause) h
+          planned_falls old (with_moved mid move) (moved_same old.tx move (open_now old.files) mid does) call files n c p count up (planned mid does) new fault down limits (λ live sh cause. any_cause live.world call refl refl refl cause) h
 
-  pub rename_unread : (new : Book) (fault : DeviceFault) → new.down ≡ Some (cause_of fault) → limits_of new ≡ limits_of old → GetFault old.run fault new.run.machine → Refuses old call (Device fault) new
+  pub rename_unread : (new : Book) (fault : DeviceFault) → new.down ≡ Some (cause_of fault) → limits_of new ≡ limits_of old → GetFault old.tx fault new.tx.machine → Refuses old call (Device fault) new
   rename_unread new fault down limits h = unread_at old new call fault up down limits (λ live sh cause. any_cause live.world call refl refl refl cause) h

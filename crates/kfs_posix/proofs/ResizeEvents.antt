@@ -20,7 +20,7 @@ use Rattle.kfs_model.specs.Change.{weight, resizing, commits, node_resizing, nod
 use Rattle.kfs_model.specs.Life.{Live, can_fail}
 use Rattle.kfs_laws.proofs.Lookups.{number_put}
 use Rattle.kfs_file.proofs.Resizing.{length_resized}
-use Rattle.kfs_tx.specs.Run.{seen}
+use Rattle.kfs_tx.specs.Tx.{seen}
 use Rattle.kfs_core.specs.declared.room.Space.{Space}
 use Rattle.kfs_core.specs.Flat.{reach_in}
 use Rattle.kfs_core.specs.Resizing.{resize_in}
@@ -67,9 +67,9 @@ pub length_holds : (t : Tree) (o : Opens) (n : ℕ) (bytes : List ℕ) (size : �
 length_holds t o n bytes size file holds = subst (λ l. Holds (relengthed o n l) (with_node t n (File (resized bytes size)))) (length_resized bytes size) (relengthed_holds t o n bytes (resized bytes size) file holds)
 
 -- the file and its length, by the judge
-node_judged : (old : Book) (n size : ℕ) (it : ℕ × ℕ) → resize_node (seen old.run) (space_of old) n size ≡ Ok it → (n ≡ it.0) × (resize_in (seen old.run) (space_of old) n size ≡ Ok it.1)
+node_judged : (old : Book) (n size : ℕ) (it : ℕ × ℕ) → resize_node (seen old.tx) (space_of old) n size ≡ Ok it → (n ≡ it.0) × (resize_in (seen old.tx) (space_of old) n size ≡ Ok it.1)
 node_judged old n size it e =
-    let x = ok_bind (resize_in (seen old.run) (space_of old) n size) (λ was. Ok (n, was)) it e in
+    let x = ok_bind (resize_in (seen old.tx) (space_of old) n size) (λ was. Ok (n, was)) it e in
     let same : (n, x.0) ≡ it = cc in
     (ap (λ (q : ℕ × ℕ). q.0) same, x.1 ∙ ap (λ (q : ℕ × ℕ). Ok q.1) same)
 
@@ -83,7 +83,7 @@ module _ (old : Book) (fd : ℕ) (size : ℤ) where
   call = calls.Ftruncate fd size
 
   abbrev judge : Result (ℕ × ℕ) Errno
-  judge = ftruncate_in (seen old.run) (space_of old) o fd size
+  judge = ftruncate_in (seen old.tx) (space_of old) o fd size
 
   -- what a description that may write gets
   abbrev cut : Tree → ℕ × Description → Result Tree Errno
@@ -121,7 +121,7 @@ module _ (old : Book) (fd : ℕ) (size : ℤ) where
   refused_at : (live : Live) (sh : ShowsLive old live) (e : Errno) → judge ≡ Err e → step (limits_of old) (spare old) live.world call ≡ record { world = live.world; reply = replies.Err e }
   refused_at live sh e is = stepped live sh ∙ ap (settles live) (by (writable_in o fd) refl (is_negative size) is) ∙ as_it_was live sh e
     where
-      by : (r : Result (ℕ × OpenFile) Errno) → writable_in o fd ≡ r → (b : Bool) → ((r >>= λ it. (EINVAL when b) >> Ok it) >>= λ it. resize_node (seen old.run) (space_of old) it.1.it.node (natural size)) ≡ Err e
+      by : (r : Result (ℕ × OpenFile) Errno) → writable_in o fd ≡ r → (b : Bool) → ((r >>= λ it. (EINVAL when b) >> Ok it) >>= λ it. resize_node (seen old.tx) (space_of old) it.1.it.node (natural size)) ≡ Err e
           → (as_described r >>= λ it. (EINVAL when b) >> lengthened (limits_of old) live.world.tree it.1.node size) ≡ Err e
       by (Err f) w b h = let same : f ≡ e = cc in ap Err same
       by (Ok it) w true h = let same : EINVAL ≡ e = cc in ap Err same
@@ -130,8 +130,8 @@ module _ (old : Book) (fd : ℕ) (size : ℤ) where
           let n = it.1.it.node in
           let stands = stands_of old live sh in
           let f = bytes_in live sh it w in
-          elim (err_bind (resize_in (seen old.run) (space_of old) n (natural size)) (λ was. Ok (n, was)) e h) [
-            | inl denied ↦ of_err (ResizesTree (seen old.run) t stands n f.0 f.1 (limits_of old) (natural size)) (lengthened (limits_of old) t n size) (resize_in (seen old.run) (space_of old) n (natural size)) e (resize_same (seen old.run) t stands n f.0 f.1 (limits_of old) (space_of old) (natural size) (space_is old live sh)) denied
+          elim (err_bind (resize_in (seen old.tx) (space_of old) n (natural size)) (λ was. Ok (n, was)) e h) [
+            | inl denied ↦ of_err (ResizesTree (seen old.tx) t stands n f.0 f.1 (limits_of old) (natural size)) (lengthened (limits_of old) t n size) (resize_in (seen old.tx) (space_of old) n (natural size)) e (resize_same (seen old.tx) t stands n f.0 f.1 (limits_of old) (space_of old) (natural size) (space_is old live sh)) denied
             | inr x ↦ absurd (let bad = x.2 in cc)
           ]
 
@@ -144,12 +144,12 @@ module _ (old : Book) (fd : ℕ) (size : ℤ) where
   lengthens live sh got is =
       let t = live.world.tree in
       let s = natural size in
-      let a = ok_bind (writable_at o fd size) (λ it. resize_node (seen old.run) (space_of old) it.1.it.node s) got is in
+      let a = ok_bind (writable_at o fd size) (λ it. resize_node (seen old.tx) (space_of old) it.1.it.node s) got is in
       let p = parts a.0 a.1 in
       let j = node_judged old a.0.1.it.node s got a.2 in
       subst (λ n. Lengthens old n got.1 s call replies.Done (relengthed o n s) (spare old) live) j.0 (by a.0 p.0 p.1 j.1)
     where
-      by : (it : ℕ × OpenFile) → writable_in o fd ≡ Ok it → is_negative size ≡ false → resize_in (seen old.run) (space_of old) it.1.it.node (natural size) ≡ Ok got.1
+      by : (it : ℕ × OpenFile) → writable_in o fd ≡ Ok it → is_negative size ≡ false → resize_in (seen old.tx) (space_of old) it.1.it.node (natural size) ≡ Ok got.1
           → Lengthens old it.1.it.node got.1 (natural size) call replies.Done (relengthed o it.1.it.node (natural size)) (spare old) live
       by it w plain judged =
           let t = live.world.tree in
@@ -158,7 +158,7 @@ module _ (old : Book) (fd : ℕ) (size : ℤ) where
           let stands = stands_of old live sh in
           let f = bytes_in live sh it w in
           let may = writable_is o fd it w in
-          let u = of_ok (ResizesTree (seen old.run) t stands n f.0 f.1 (limits_of old) s) (lengthened (limits_of old) t n size) (resize_in (seen old.run) (space_of old) n s) got.1 (resize_same (seen old.run) t stands n f.0 f.1 (limits_of old) (space_of old) s (space_is old live sh)) judged in
+          let u = of_ok (ResizesTree (seen old.tx) t stands n f.0 f.1 (limits_of old) s) (lengthened (limits_of old) t n size) (resize_in (seen old.tx) (space_of old) n s) got.1 (resize_same (seen old.tx) t stands n f.0 f.1 (limits_of old) (space_of old) s (space_is old live sh)) judged in
           let tree_is : u.0 ≡ with_node t n (File (resized f.0 s)) = u.2.0 in
           record {
             bytes = f.0;
@@ -175,7 +175,7 @@ module _ (old : Book) (fd : ℕ) (size : ℤ) where
             room = subst (λ x. has_room (limits_of old) x ≡ true) tree_is u.2.2;
           }
 
-  pub ftruncate_resizing : IsResizing old (calls.Ftruncate fd size) (ftruncate_in (seen old.run) (space_of old) old.files fd size) (natural size)
+  pub ftruncate_resizing : IsResizing old (calls.Ftruncate fd size) (ftruncate_in (seen old.tx) (space_of old) old.files fd size) (natural size)
   ftruncate_resizing = record {
     does = lengthens;
     refused = refused_at;
@@ -202,15 +202,15 @@ split m space route size = by (reach_in m route)
 
 module _ (old : Book) (path : List ℕ) where
   abbrev judge_by : ℤ → Result (ℕ × ℕ) Errno
-  judge_by size = truncate_by (seen old.run) (space_of old) path size
+  judge_by size = truncate_by (seen old.tx) (space_of old) path size
 
   denied : (live : Live) (sh : ShowsLive old live) (size : ℤ) (e : Errno) → judge_by size ≡ Err e → step (limits_of old) (spare old) live.world (calls.Truncate path size) ≡ record { world = live.world; reply = replies.Err e }
   denied live sh (negsuc size) e is = let same : EINVAL ≡ e = cc in ap (λ e. record { world = live.world; reply = replies.Err e }) same
-  denied live sh (pos size) e is = elim (err_bind (syntax path) (λ route. named_file_in (seen old.run) route >>= λ n. resize_node (seen old.run) (space_of old) n size) e is) [
+  denied live sh (pos size) e is = elim (err_bind (syntax path) (λ route. named_file_in (seen old.tx) route >>= λ n. resize_node (seen old.tx) (space_of old) n size) e is) [
     | inl none ↦ rw none refl
     | inr x ↦
         let t = live.world.tree in
-        let m = seen old.run in
+        let m = seen old.tx in
         let stands = stands_of old live sh in
         ap (λ (r : Result Tree Errno). settled live.world (changes_tree live.world r))
         (of_err (CutsTree m t stands (limits_of old) path size) (truncate (limits_of old) t path (pos size)) (truncate_in m (space_of old) x.0 size) e (truncate_same m t stands (limits_of old) (space_of old) (space_is old live sh) path x.0 x.1 size) (sym (split m (space_of old) x.0 size) ∙ x.2))
@@ -220,7 +220,7 @@ module _ (old : Book) (path : List ℕ) where
   cuts live sh (negsuc size) got is = absurd (cc)
   cuts live sh (pos size) got is =
       let t = live.world.tree in
-      let m = seen old.run in
+      let m = seen old.tx in
       let o = old.files in
       let n = got.0 in
       let stands = stands_of old live sh in
@@ -241,7 +241,7 @@ module _ (old : Book) (path : List ℕ) where
         room = subst (λ x. has_room (limits_of old) x ≡ true) tree_is cut.5;
       }
 
-  pub truncate_resizing : (size : ℤ) → IsResizing old (calls.Truncate path size) (truncate_by (seen old.run) (space_of old) path size) (natural size)
+  pub truncate_resizing : (size : ℤ) → IsResizing old (calls.Truncate path size) (truncate_by (seen old.tx) (space_of old) path size) (natural size)
   truncate_resizing size = record {
     does = λ live sh got is. cuts live sh size got is;
     refused = λ live sh e is. denied live sh size e is;

@@ -19,7 +19,7 @@ use Rattle.kfs_model.specs.Step.{World, After, step}
 use Rattle.kfs_model.specs.Change.{weight, resizing, commits, is_boundary}
 use Rattle.kfs_model.specs.Life.{Live, can_fail}
 use Rattle.kfs_shows.specs.Sweeping.{ShowsWorld, with_tree}
-use Rattle.kfs_tx.specs.Run.{Run, Caused, seen, changed_keys, one_change, with_super, is_full}
+use Rattle.kfs_tx.specs.Tx.{Tx, Caused, seen, changed_keys, one_change, with_super, is_full}
 use Rattle.kfs_tx.proofs.Falling.{put_falls, change_falls}
 use Rattle.kfs_file.specs.Contents.{pending_of}
 use Rattle.kfs_core.specs.Files.{with_length}
@@ -52,11 +52,11 @@ pub record Lengthens (old : Book) (n was size : ℕ) (call : Call) (reply : Repl
   pub room : has_room (limits_of old) (with_node live.world.tree n (File (resized bytes size))) ≡ true
 
 -- only the pending changes are others
-pub length_same : (r : Run) (n was size : ℕ) (put : Run) → PutsLength r n was size put → with_length put n size ≡ pending_of (with_length put n size) r
-length_same r n was size put puts = ap (λ (x : Run). record x { machine = record x.machine { pending = (with_length put n size).machine.pending } }) puts.resizes.same
+pub length_same : (r : Tx) (n was size : ℕ) (put : Tx) → PutsLength r n was size put → with_length put n size ≡ pending_of (with_length put n size) r
+length_same r n was size put puts = ap (λ (x : Tx). record x { machine = record x.machine { pending = (with_length put n size).machine.pending } }) puts.resizes.same
 
 -- the fault of a new length has a cause from outside
-pub resize_caused : (r : Run) (n was size : ℕ) (fault : DeviceFault) (new : Machine) → ResizeFault r n was size fault new → Caused r.machine fault new
+pub resize_caused : (r : Tx) (n was size : ℕ) (fault : DeviceFault) (new : Machine) → ResizeFault r n was size fault new → Caused r.machine fault new
 resize_caused r n was size fault new (inl h) = h.cause
 resize_caused r n was size fault new (inr (put, puts, inl h)) = caused_from r put fault new puts.resizes.same h.1
 resize_caused r n was size fault new (inr (put, puts, inr h)) = change_caused r (with_length put n size) (resize_weight was size) put.next fault new (length_same r n was size put puts) h
@@ -85,7 +85,7 @@ module _ (old : Book) (n was size : ℕ) (call : Call) (reply : Reply) (files : 
         subst (Holds files) stays it.holds,
       ))
 
-  module _ (differ : was ≢ size) (count : old.run.changes + 1 < 2 ^ 63) where
+  module _ (differ : was ≢ size) (count : old.tx.changes + 1 < 2 ^ 63) where
     abbrev w : ℕ
     w = resize_weight was size
 
@@ -95,30 +95,30 @@ module _ (old : Book) (n was size : ℕ) (call : Call) (reply : Reply) (files : 
     abbrev pub chunks_now : ℕ
     chunks_now = old.chunks + chunks_for size - chunks_for was
 
-    module _ (put : Run) (puts : PutsLength old.run n was size put) where
-      abbrev mid : Run
+    module _ (put : Tx) (puts : PutsLength old.tx n was size put) where
+      abbrev mid : Tx
       mid = with_length put n size
 
-      same : mid ≡ pending_of mid old.run
-      same = length_same old.run n was size put puts
+      same : mid ≡ pending_of mid old.tx
+      same = length_same old.tx n was size put puts
 
-      numbers : SameNumbers old.run mid
-      numbers = numbers_of old.run mid same
+      numbers : SameNumbers old.tx mid
+      numbers = numbers_of old.tx mid same
 
       module _ (d : ℕ) (live : Live) (sh : ShowsLive old live) (it : Lengthens old n was size call reply files d live) where
         abbrev tree : Tree
         tree = with_node live.world.tree n (File (resized it.bytes size))
 
-        puts_bytes : PutsLength old.run n (length it.bytes) size put
-        puts_bytes = subst (λ s. PutsLength old.run n s size put) it.was_is puts
+        puts_bytes : PutsLength old.tx n (length it.bytes) size put
+        puts_bytes = subst (λ s. PutsLength old.tx n s size put) it.was_is puts
 
-        rests : Rests old.run mid (keys_cut (length it.bytes) size + 1)
-        rests = resized_rests old.run sh.light.ready live.world (world_shown old live sh) (let h = sh.low in omega arith) n it.bytes it.file size it.short put puts_bytes
+        rests : Rests old.tx mid (keys_cut (length it.bytes) size + 1)
+        rests = resized_rests old.tx sh.light.ready live.world (world_shown old live sh) (let h = sh.low in omega arith) n it.bytes it.file size it.short put puts_bytes
 
         shows : ShowsWorld (seen mid) (with_tree live.world tree)
-        shows = resized_shows old.run sh.light.ready live.world (world_shown old live sh) (let h = sh.low in omega arith) n it.bytes it.file size it.short put puts_bytes
+        shows = resized_shows old.tx sh.light.ready live.world (world_shown old live sh) (let h = sh.low in omega arith) n it.bytes it.file size it.short put puts_bytes
 
-        few : changed_keys mid + 1 ≤ old.run.weight + w
+        few : changed_keys mid + 1 ≤ old.tx.weight + w
         few =
             let f = rests.few sh.light.ready in
             let same_cut : keys_cut (length it.bytes) size ≡ keys_cut was size = ap (λ s. keys_cut s size) (sym it.was_is) in
@@ -156,10 +156,10 @@ module _ (old : Book) (n was size : ℕ) (call : Call) (reply : Reply) (files : 
 
       -- another length is a change
       pub length_goes : (d : ℕ) → find nat_cmp d old.files.files ≡ None → ((live : Live) → ShowsLive old live → Lengthens old n was size call reply files d live)
-          → GoesOn old (lines.Call call) (answers.Reply reply) (record old { run = one_change mid w put.next; charge = charge_now; chunks = chunks_now; files = files })
+          → GoesOn old (lines.Call call) (answers.Reply reply) (record old { tx = one_change mid w put.next; charge = charge_now; chunks = chunks_now; files = files })
       length_goes d free at =
-          let m = changed_same old.run mid same w put.next in
-          change_goes_at old (record old { run = one_change mid w put.next; charge = charge_now; chunks = chunks_now; files = files }) call reply w d free up m.cuts m.faults (changed_bounds old.run mid same w put.next) (λ live sh.
+          let m = changed_same old.tx mid same w put.next in
+          change_goes_at old (record old { tx = one_change mid w put.next; charge = charge_now; chunks = chunks_now; files = files }) call reply w d free up m.cuts m.faults (changed_bounds old.tx mid same w put.next) (λ live sh.
           let it = at live sh in (
             record { tree = tree d live sh it; desk = desk_of files },
             it.step_is,
@@ -169,7 +169,7 @@ module _ (old : Book) (n was size : ℕ) (call : Call) (reply : Reply) (files : 
 
     -- a fault in it
     pub length_falls : (new : Book) (fault : DeviceFault) → new.down ≡ Some (cause_of fault) → limits_of new ≡ limits_of old → ((u : World) (cause : Cause) → can_fail u call cause ≡ true)
-        → ((live : Live) → ShowsLive old live → Lengthens old n was size call reply files (spare old) live) → ResizeFault old.run n was size fault new.run.machine
+        → ((live : Live) → ShowsLive old live → Lengthens old n was size call reply files (spare old) live) → ResizeFault old.tx n was size fault new.tx.machine
         → Refuses old call (Device fault) new
     length_falls new fault down limits can at (inl h) = early_falls old new call (keys_cut was size) fault up down limits (λ live sh cause. can live.world cause)
         (λ live sh. let it = at live sh in let k = few_cut was size (let h = sh.tree.lengths n it.bytes it.file in let e = it.was_is in omega arith) in omega arith) h
@@ -179,10 +179,10 @@ module _ (old : Book) (n was size : ℕ) (call : Call) (reply : Reply) (files : 
         let k = few_keys put puts (spare old) live sh it in
         let few = sh.light.few in
         let light = sh.light.light in
-        let f = put_falls put (inode_key n) (inode_value 2 size) fault new.run.machine (puts.resizes.ready sh.light.ready) (omega arith) (small_inode size (inode_key n)) h in
+        let f = put_falls put (inode_key n) (inode_value 2 size) fault new.tx.machine (puts.resizes.ready sh.light.ready) (omega arith) (small_inode size (inode_key n)) h in
         record {
-          stands = old.run.machine.stable;
-          fallen = fallen_from old.run put fault old.run.machine.stable new.run.machine puts.resizes.same f.cause (f.stable ∙ ap (λ (r : Run). r.machine.stable) puts.resizes.same) f.bounds;
+          stands = old.tx.machine.stable;
+          fallen = fallen_from old.tx put fault old.tx.machine.stable new.tx.machine puts.resizes.same f.cause (f.stable ∙ ap (λ (r : Tx). r.machine.stable) puts.resizes.same) f.bounds;
           stood = as_before sh.saved;
           can = λ cause e. can live.world cause;
         })
@@ -200,16 +200,16 @@ module _ (old : Book) (n was size : ℕ) (call : Call) (reply : Reply) (files : 
         let k = few_keys put puts (spare old) live sh it in
         let enough = is.few in
         let light = sh.light.light in
-        elim (change_falls m w put.next fault new.run.machine is.ready (omega arith) room h) [
+        elim (change_falls m w put.next fault new.tx.machine is.ready (omega arith) room h) [
           | inl f ↦ record {
-            stands = old.run.machine.stable;
-            fallen = fallen_from old.run m fault old.run.machine.stable new.run.machine only f.cause (f.stable ∙ is.stable) f.bounds;
+            stands = old.tx.machine.stable;
+            fallen = fallen_from old.tx m fault old.tx.machine.stable new.tx.machine only f.cause (f.stable ∙ is.stable) f.bounds;
             stood = as_before sh.saved;
             can = λ cause e. can live.world cause;
           }
           | inr y ↦ record {
             stands = seen (with_super m put.next);
-            fallen = fallen_from old.run m fault (seen (with_super m put.next)) new.run.machine only y.1.cause y.1.stable y.1.bounds;
+            fallen = fallen_from old.tx m fault (seen (with_super m put.next)) new.tx.machine only y.1.cause y.1.stable y.1.bounds;
             stood = as_after w (ap (weight live.world call) it.step_is ∙ weighs put puts (spare old) live sh it)
                 (ap (λ (a : After). is_boundary live.since call a.reply (Some w)) it.step_is ∙ (λ i. is_full (sym sh.changes i + 1) (sym sh.weight i + w)) ∙ (λ i. is_full (sym is.since i + 1) (sym is.weight i + w)) ∙ y.0)
                 (subst (λ (t : Tree). IsWhole (limits_of old) (seen (with_super m put.next)) t (live.past.count + 1)) (ap (λ (a : After). a.world.tree) (sym it.step_is)) saved);

@@ -32,8 +32,8 @@ armed_by old most false le few may = absurd (let h = may in omega arith)
 pub fits : (b : Book) (s : State) → ShowsState b s → Fits b s
 fits b s shows = record {
   now = shows.now;
-  cuts = armed_by b.run.machine.cuts b.run.machine.most_cuts s.cut_armed (let h = shows.cuts in omega arith) shows.few_cuts;
-  faults = armed_by b.run.machine.faults b.run.machine.most_faults s.fail_armed shows.faults shows.few_faults;
+  cuts = armed_by b.tx.machine.cuts b.tx.machine.most_cuts s.cut_armed (let h = shows.cuts in omega arith) shows.few_cuts;
+  faults = armed_by b.tx.machine.faults b.tx.machine.most_faults s.fail_armed shows.faults shows.few_faults;
 }
 
 -- so the line and its answer lead from one such state to another
@@ -55,7 +55,7 @@ still_showing old new line answer up goes showing none = ∥∥₁_map (showing 
     by (Up live) sh = (live, sh)
     by (Down past may) sh = absurd (let e : None ≡ Some sh.cause = sym none ∙ sh.down in cc)
 
-pub awake_in : (b : Book) → IsShowing b → b.down ≡ None → b.run.machine.up ≡ true
+pub awake_in : (b : Book) → IsShowing b → b.down ≡ None → b.tx.machine.up ≡ true
 awake_in b showing none = ∥∥₁_elim (showing none) (Bool-set _ _) (λ x. x.1.light.ready.up)
 
 -- ---- what a fault is

@@ -16,7 +16,7 @@ use Rattle.kfs_model.specs.Tree.{Tree, Limits}
 use Rattle.kfs_model.specs.Desk.{Desk, lowest_free}
 use Rattle.kfs_model.specs.Step.{World, step, or_else, is_negative, natural}
 use Rattle.kfs_model.specs.Change.{weight, commits}
-use Rattle.kfs_core.specs.Core.{KfsState, run_in}
+use Rattle.kfs_core.specs.Core.{KfsState, tx_in}
 use Rattle.kfs_posix.specs.declared.open_files.OpenFile.{OpenFile}
 use Rattle.kfs_posix.specs.Opens.{Opens, desk_of, open_at, with_descriptor, with_file}
 use Rattle.kfs_posix.specs.Holding.{Holds}
@@ -122,8 +122,8 @@ module _ (old : SessionState) (k0 : KfsState) (o o1 : Opens) (d : Option Cause) 
   is_answer : IsAnswer reply
   is_answer = subst (λ (x : Turn). IsAnswer x.reply) (sym done) turns.answers
 
-  pub turned_counts : Counts old.book.run.machine reply (run_in k0).machine
-  turned_counts = subst (λ (s : SessionState). Counts s.book.run.machine reply (run_in k0).machine) is (still_counts (run_in k0).machine reply is_answer)
+  pub turned_counts : Counts old.book.tx.machine reply (tx_in k0).machine
+  turned_counts = subst (λ (s : SessionState). Counts s.book.tx.machine reply (tx_in k0).machine) is (still_counts (tx_in k0).machine reply is_answer)
 
   pub turned_keeps : KeepsCause old.book reply (book_of k0 o1 d)
   turned_keeps = subst (λ (s : SessionState). KeepsCause s.book reply (book_of k0 o1 d)) is (still_up b (book_of k0 o1 d) reply is_answer up up)

@@ -8,11 +8,11 @@ use Rattle.kfs_path.specs.declared.call.Reply.{Reply}
 use Rattle.kfs_path.specs.declared.call.Reply.TheVariants as replies
 use Rattle.kfs_model.specs.declared.Line.TheVariants as lines
 use Rattle.kfs_model.specs.declared.Answer.TheVariants as answers
-use Rattle.kfs_tx.specs.Run.{Run, age_of}
+use Rattle.kfs_tx.specs.Tx.{Tx, age_of}
 use Rattle.kfs_core.specs.declared.fault.CoreFault.{CoreFault}
 use Rattle.kfs_core.specs.declared.fault.CoreFault.TheVariants.{No, Device}
 use Rattle.kfs_core.specs.declared.removing.Leaf.{Leaf}
-use Rattle.kfs_core.specs.Core.{KfsState, run_in}
+use Rattle.kfs_core.specs.Core.{KfsState, tx_in}
 use Rattle.kfs_posix.specs.Opens.{Opens, without_name}
 use Rattle.kfs_posix.specs.Removing.{Unnamed, UnnameFails, open_now}
 use Rattle.kfs_posix.specs.Book.{Book, SessionState, state_of, book_of, running_in, cause_of}
@@ -27,31 +27,31 @@ use Rattle.kfs_posix.proofs.Going.{errs}
 pub done_plain : IsPlain replies.Done
 done_plain = plain (λ old new h. h) (λ old new a b. (a, b))
 
-module _ (old : SessionState) (k0 k1 : KfsState) (o o1 : Opens) (d : Option Cause) (is : state_of k0 o d ≡ old) (up : d ≡ None) (awake : (run_in k0).machine.up ≡ true) (age : age_of (running_in old) < 2 ^ 63 - 2 ^ 40)
+module _ (old : SessionState) (k0 k1 : KfsState) (o o1 : Opens) (d : Option Cause) (is : state_of k0 o d ≡ old) (up : d ≡ None) (awake : (tx_in k0).machine.up ≡ true) (age : age_of (running_in old) < 2 ^ 63 - 2 ^ 40)
     (call : Call) (judge : Result Leaf Errno) (removal : IsRemoval (book_of k0 o d) call judge) where
   abbrev b : Book
   b = book_of k0 o d
 
   pub unname_answered : Unnamed k0 o judge k1 o1 → Happens old call replies.Done k1 o1 d
   unname_answered h =
-      let run = h.effect.change in
-      let same = unnames_same (run_in k0) h.leaf (open_now o h.leaf.node) h.effect.mid h.effect.unnames in
+      let tx = h.effect.change in
+      let same = unnames_same (tx_in k0) h.leaf (open_now o h.leaf.node) h.effect.mid h.effect.unnames in
       answered old k0 k1 o o1 d is up call replies.Done done_plain _ _ _ (without_name o h.leaf.node)
-      (changed_same (run_in k0) h.effect.mid same (unname_weight b call judge removal (low_count old k0 o d is age) up h.leaf) h.effect.mid.next)
-      run (ap (λ (k : KfsState). k.charge) h.frees) (ap (λ (k : KfsState). k.chunks) h.frees) (ap (λ (k : KfsState). k.keys) h.frees) (ap (λ (k : KfsState). k.pages) h.frees) h.files_are
+      (changed_same (tx_in k0) h.effect.mid same (unname_weight b call judge removal (low_count old k0 o d is age) up h.leaf) h.effect.mid.next)
+      tx (ap (λ (k : KfsState). k.charge) h.frees) (ap (λ (k : KfsState). k.chunks) h.frees) (ap (λ (k : KfsState). k.keys) h.frees) (ap (λ (k : KfsState). k.pages) h.frees) h.files_are
       (unname_goes b call judge removal (low_count old k0 o d is age) up h.leaf h.judge h.effect.mid h.effect.unnames)
 
   pub unname_failed : (fault : CoreFault) (reply : Reply) (d1 : Option Cause) → UnnameFails k0 o judge fault k1 o1 → reply ≡ refusal fault → d1 ≡ down_after d fault → Fails old call fault reply k1 o1 d1
   unname_failed (No e) reply d1 h reply_is down =
-      let machine = ap (λ (k : KfsState). (run_in k).machine) h.1 in
+      let machine = ap (λ (k : KfsState). (tx_in k).machine) h.1 in
       failed old k0 k1 o o1 d is up call (No e) reply d1 reply_is down (ap (λ (k : KfsState). k.charge) h.1) (ap (λ (k : KfsState). k.chunks) h.1) (ap (λ (k : KfsState). k.keys) h.1) (ap (λ (k : KfsState). k.pages) h.1) h.2
       (ap (λ (m : Machine). m.cuts) machine, ap (λ (m : Machine). m.faults) machine)
-      (errs b (record b { run = run_in k1 }) call e (subst (λ (r : Run). GoesOn b (lines.Call call) (answers.Reply (replies.Err e)) (record b { run = r })) (sym (ap run_in h.1)) (unname_refused b call judge removal (low_count old k0 o d is age) up e h.0)))
+      (errs b (record b { tx = tx_in k1 }) call e (subst (λ (r : Tx). GoesOn b (lines.Call call) (answers.Reply (replies.Err e)) (record b { tx = r })) (sym (ap tx_in h.1)) (unname_refused b call judge removal (low_count old k0 o d is age) up e h.0)))
   unname_failed (Device f) reply d1 (stays, files, inl unread) reply_is down =
       failed old k0 k1 o o1 d is up call (Device f) reply d1 reply_is down (ap (λ (k : KfsState). k.charge) stays) (ap (λ (k : KfsState). k.chunks) stays) (ap (λ (k : KfsState). k.keys) stays) (ap (λ (k : KfsState). k.pages) stays) files
-      (caused_counts (run_in k0).machine f (run_in k1).machine awake (alone_caused (run_in k0).machine f (run_in k1).machine unread.1))
-      (unname_unread b call judge removal (low_count old k0 o d is age) up (record b { run = run_in k1; down = Some (cause_of f) }) f refl refl unread)
+      (caused_counts (tx_in k0).machine f (tx_in k1).machine awake (alone_caused (tx_in k0).machine f (tx_in k1).machine unread.1))
+      (unname_unread b call judge removal (low_count old k0 o d is age) up (record b { tx = tx_in k1; down = Some (cause_of f) }) f refl refl unread)
   unname_failed (Device f) reply d1 (stays, files, inr (leaf, judged, fell)) reply_is down =
       failed old k0 k1 o o1 d is up call (Device f) reply d1 reply_is down (ap (λ (k : KfsState). k.charge) stays) (ap (λ (k : KfsState). k.chunks) stays) (ap (λ (k : KfsState). k.keys) stays) (ap (λ (k : KfsState). k.pages) stays) files
-      (caused_counts (run_in k0).machine f (run_in k1).machine awake (unname_caused (run_in k0) leaf (open_now o leaf.node) f (run_in k1).machine fell))
-      (unname_falls b call judge removal (low_count old k0 o d is age) up (record b { run = run_in k1; down = Some (cause_of f) }) leaf f judged refl refl fell)
+      (caused_counts (tx_in k0).machine f (tx_in k1).machine awake (unname_caused (tx_in k0) leaf (open_now o leaf.node) f (tx_in k1).machine fell))
+      (unname_falls b call judge removal (low_count old k0 o d is age) up (record b { tx = tx_in k1; down = Some (cause_of f) }) leaf f judged refl refl fell)

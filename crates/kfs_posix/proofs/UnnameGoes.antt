@@ -17,7 +17,7 @@ use Rattle.kfs_model.specs.Step.{World, After, syntax, step, settled, swept, unl
 use Rattle.kfs_model.specs.Change.{weight, commits}
 use Rattle.kfs_model.specs.Life.{Live, can_fail}
 use Rattle.kfs_shows.specs.Sweeping.{with_tree}
-use Rattle.kfs_tx.specs.Run.{Run, Caused, GetFault, seen, deleted_in, one_change}
+use Rattle.kfs_tx.specs.Tx.{Tx, Caused, GetFault, seen, deleted_in, one_change}
 use Rattle.kfs_file.specs.Contents.{pending_of}
 use Rattle.kfs_core.specs.declared.removing.Leaf.{Leaf}
 use Rattle.kfs_core.specs.Removing.{Unnames, UnlinkFault, chunks_gone, keys_gone, unlink_in, rmdir_in}
@@ -39,8 +39,8 @@ use Rattle.kfs_core.specs.declared.fault.CoreFault.TheVariants.{Device}
 
 -- a call that takes away the entry that it judged
 pub record IsRemoval (old : Book) (call : Call) (judge : Result Leaf Errno) : Type 0 where
-  pub plan : (live : Live) → ShowsLive old live → (leaf : Leaf) → judge ≡ Ok leaf → (mid : Run) → Unnames old.run leaf (open_now old.files leaf.node) mid
-      → Plan old.run mid (limits_of old) live.world live.world.desk call (4 + chunks_gone leaf (open_now old.files leaf.node)) (old.charge - keys_gone leaf (open_now old.files leaf.node)) (old.chunks - chunks_gone leaf (open_now old.files leaf.node))
+  pub plan : (live : Live) → ShowsLive old live → (leaf : Leaf) → judge ≡ Ok leaf → (mid : Tx) → Unnames old.tx leaf (open_now old.files leaf.node) mid
+      → Plan old.tx mid (limits_of old) live.world live.world.desk call (4 + chunks_gone leaf (open_now old.files leaf.node)) (old.charge - keys_gone leaf (open_now old.files leaf.node)) (old.chunks - chunks_gone leaf (open_now old.files leaf.node))
   pub leaf : (live : Live) → ShowsLive old live → (leaf : Leaf) → judge ≡ Ok leaf
       → (place : Place) × IsLeaf live.world.tree place leaf × ((d : ℕ) → step (limits_of old) d live.world call ≡ record { world = swept (with_tree live.world (without_place live.world.tree place)); reply = replies.Done })
   pub refused : (live : Live) → ShowsLive old live → (e : Errno) → judge ≡ Err e → (d : ℕ) → step (limits_of old) d live.world call ≡ record { world = live.world; reply = replies.Err e }
@@ -49,11 +49,11 @@ pub record IsRemoval (old : Book) (call : Call) (judge : Result Leaf Errno) : Ty
   pub can : (w : World) (cause : Cause) → can_fail w call cause ≡ true
 
 -- only the pending changes are others
-pub unnames_same : (r : Run) (leaf : Leaf) (b : Bool) (mid : Run) → Unnames r leaf b mid → mid ≡ pending_of mid r
-unnames_same r leaf true mid h = subst (λ (x : Run). x ≡ pending_of x r) (sym h) refl
+pub unnames_same : (r : Tx) (leaf : Leaf) (b : Bool) (mid : Tx) → Unnames r leaf b mid → mid ≡ pending_of mid r
+unnames_same r leaf true mid h = subst (λ (x : Tx). x ≡ pending_of x r) (sym h) refl
 unnames_same r leaf false mid h = (goes_follows (deleted_in r (entry_key leaf.parent leaf.name)) mid leaf.node leaf.size h).same
 
-module _ (old : Book) (call : Call) (judge : Result Leaf Errno) (removal : IsRemoval old call judge) (count : old.run.changes + 1 < 2 ^ 63) (up : old.down ≡ None) where
+module _ (old : Book) (call : Call) (judge : Result Leaf Errno) (removal : IsRemoval old call judge) (count : old.tx.changes + 1 < 2 ^ 63) (up : old.down ≡ None) where
   abbrev open_still : Leaf → Bool
   open_still leaf = open_now old.files leaf.node
 
@@ -66,39 +66,39 @@ module _ (old : Book) (call : Call) (judge : Result Leaf Errno) (removal : IsRem
   abbrev chunks_left : Leaf → ℕ
   chunks_left leaf = old.chunks - chunks_gone leaf (open_still leaf)
 
-  planned : (leaf : Leaf) → judge ≡ Ok leaf → (mid : Run) → Unnames old.run leaf (open_still leaf) mid → (live : Live) → ShowsLive old live → Planned old mid call (without_name old.files leaf.node) (unname_weight leaf) (charge_left leaf) (chunks_left leaf) live
+  planned : (leaf : Leaf) → judge ≡ Ok leaf → (mid : Tx) → Unnames old.tx leaf (open_still leaf) mid → (live : Live) → ShowsLive old live → Planned old mid call (without_name old.files leaf.node) (unname_weight leaf) (charge_left leaf) (chunks_left leaf) live
   planned leaf is mid does live sh =
       let o = old.files in
       let t = live.world.tree in
       let desk_is : live.world.desk ≡ desk_of (without_name o leaf.node) = sh.desk ∙ sym (forgets o leaf.node) in
-      let plan = subst (λ (desk : Desk). Plan old.run mid (limits_of old) live.world desk call (unname_weight leaf) (charge_left leaf) (chunks_left leaf)) desk_is (removal.plan live sh leaf is mid does) in
+      let plan = subst (λ (desk : Desk). Plan old.tx mid (limits_of old) live.world desk call (unname_weight leaf) (charge_left leaf) (chunks_left leaf)) desk_is (removal.plan live sh leaf is mid does) in
       let at = removal.leaf live sh leaf is in
       let tree_is : (swept (world_in (without_place t at.0) o)).tree ≡ plan.world.tree =
       (λ i. (swept (record { tree = without_place t at.0; desk = sym sh.desk i })).tree) ∙ ap (λ (a : After). a.world.tree) (sym (at.2 0) ∙ plan.steps 0) in
       record { plan = plan; holds = subst (Holds (without_name o leaf.node)) tree_is (leaf_holds t o at.0 leaf sh.tree at.1 sh.holds) }
 
-  pub unname_goes : (leaf : Leaf) → judge ≡ Ok leaf → (mid : Run) → Unnames old.run leaf (open_still leaf) mid
-      → GoesOn old (lines.Call call) (answers.Reply replies.Done) (record old { run = one_change mid (unname_weight leaf) mid.next; charge = charge_left leaf; chunks = chunks_left leaf; files = without_name old.files leaf.node })
+  pub unname_goes : (leaf : Leaf) → judge ≡ Ok leaf → (mid : Tx) → Unnames old.tx leaf (open_still leaf) mid
+      → GoesOn old (lines.Call call) (answers.Reply replies.Done) (record old { tx = one_change mid (unname_weight leaf) mid.next; charge = charge_left leaf; chunks = chunks_left leaf; files = without_name old.files leaf.node })
   unname_goes leaf is mid does =
-      planned_goes old mid (unnames_same old.run leaf (open_still leaf) mid does) call (without_name old.files leaf.node) (unname_weight leaf) (charge_left leaf) (chunks_left leaf) count up (planned leaf is mid does)
+      planned_goes old mid (unnames_same old.tx leaf (open_still leaf) mid does) call (without_name old.files leaf.node) (unname_weight leaf) (charge_left leaf) (chunks_left leaf) count up (planned leaf is mid does)
 
   pub unname_refused : (e : Errno) → judge ≡ Err e → GoesOn old (lines.Call call) (answers.Reply (replies.Err e)) old
   unname_refused e is = idle_goes old call (replies.Err e) up (removal.weightless e) (removal.quiet e) (λ live sh. removal.refused live sh e is (spare old))
 
-  pub unname_unread : (new : Book) (fault : DeviceFault) → new.down ≡ Some (cause_of fault) → limits_of new ≡ limits_of old → GetFault old.run fault new.run.machine → Refuses old call (Device fault) new
+  pub unname_unread : (new : Book) (fault : DeviceFault) → new.down ≡ Some (cause_of fault) → limits_of new ≡ limits_of old → GetFault old.tx fault new.tx.machine → Refuses old call (Device fault) new
   unname_unread new fault down limits h = unread_at old new call fault up down limits (λ live sh cause. removal.can live.world cause) h
 
-  pub unname_falls : (new : Book) (leaf : Leaf) (fault : DeviceFault) → judge ≡ Ok leaf → new.down ≡ Some (cause_of fault) → limits_of new ≡ limits_of old → UnlinkFault old.run leaf (open_still leaf) fault new.run.machine
+  pub unname_falls : (new : Book) (leaf : Leaf) (fault : DeviceFault) → judge ≡ Ok leaf → new.down ≡ Some (cause_of fault) → limits_of new ≡ limits_of old → UnlinkFault old.tx leaf (open_still leaf) fault new.tx.machine
       → Refuses old call (Device fault) new
   unname_falls new leaf fault is down limits (inl h) = early_falls old new call (2 + chunks_gone leaf (open_still leaf)) fault up down limits (λ live sh cause. removal.can live.world cause) (λ live sh.
       let at = removal.leaf live sh leaf is in
-      let l = leaf_light old.run sh.light.ready (limits_of old) live.world (world_shown old live sh) (let h = sh.low in omega arith) sh.room old.charge old.chunks sh.charged sh.chunked at.0 leaf at.1 (open_still leaf) in
+      let l = leaf_light old.tx sh.light.ready (limits_of old) live.world (world_shown old live sh) (let h = sh.low in omega arith) sh.room old.charge old.chunks sh.charged sh.chunked at.0 leaf at.1 (open_still leaf) in
       omega arith) h
   unname_falls new leaf fault is down limits (inr (mid, does, h)) =
-      planned_falls old mid (unnames_same old.run leaf (open_still leaf) mid does) call (without_name old.files leaf.node) (unname_weight leaf) (charge_left leaf) (chunks_left leaf) count up (planned leaf is mid does) new fault down limits (λ live sh cause. removal.can live.world cause) h
+      planned_falls old mid (unnames_same old.tx leaf (open_still leaf) mid does) call (without_name old.files leaf.node) (unname_weight leaf) (charge_left leaf) (chunks_left leaf) count up (planned leaf is mid does) new fault down limits (λ live sh cause. removal.can live.world cause) h
 
 -- the fault of a removal has a cause from outside
-pub unname_caused : (r : Run) (leaf : Leaf) (b : Bool) (fault : DeviceFault) (new : Machine) → UnlinkFault r leaf b fault new → Caused r.machine fault new
+pub unname_caused : (r : Tx) (leaf : Leaf) (b : Bool) (fault : DeviceFault) (new : Machine) → UnlinkFault r leaf b fault new → Caused r.machine fault new
 unname_caused r leaf b fault new (inl h) = h.cause
 unname_caused r leaf b fault new (inr (mid, does, h)) = change_caused r mid (4 + chunks_gone leaf b) mid.next fault new (unnames_same r leaf b mid does) h
 
@@ -119,40 +119,40 @@ module _ (old : Book) (path : List ℕ) where
   pub reach : (live : Live) → ShowsLive old live → live.world.tree.next ≤ 2 ^ 63
   reach live sh = let h = sh.low in omega arith
 
-  pub unlink_removal : IsRemoval old (calls.Unlink path) (unlink_by (seen old.run) path)
+  pub unlink_removal : IsRemoval old (calls.Unlink path) (unlink_by (seen old.tx) path)
   unlink_removal = record {
     plan = λ live sh leaf is mid does.
-        let at = ok_bind (syntax path) (unlink_in (seen old.run)) leaf is in
-        unlink_plan old.run sh.light.ready (limits_of old) live.world (world_shown old live sh) (reach live sh) sh.room old.charge old.chunks sh.charged sh.chunked (open_now old.files) (listed live sh) path at.0 at.1 leaf at.2 mid does;
+        let at = ok_bind (syntax path) (unlink_in (seen old.tx)) leaf is in
+        unlink_plan old.tx sh.light.ready (limits_of old) live.world (world_shown old live sh) (reach live sh) sh.room old.charge old.chunks sh.charged sh.chunked (open_now old.files) (listed live sh) path at.0 at.1 leaf at.2 mid does;
     leaf = λ live sh leaf is.
         let t = live.world.tree in
-        let at = ok_bind (syntax path) (unlink_in (seen old.run)) leaf is in
+        let at = ok_bind (syntax path) (unlink_in (seen old.tx)) leaf is in
         let stands = stands_of old live sh in
-        let it = of_ok (UnlinksLeaf (seen old.run) t stands live.world.desk) (unlink live.world path) (unlink_in (seen old.run) at.0) leaf (unlink_same (seen old.run) t stands live.world.desk path at.0 at.1) at.2 in
+        let it = of_ok (UnlinksLeaf (seen old.tx) t stands live.world.desk) (unlink live.world path) (unlink_in (seen old.tx) at.0) leaf (unlink_same (seen old.tx) t stands live.world.desk path at.0 at.1) at.2 in
         (it.2.0, it.2.1, λ d. ap (settled live.world) it.1 ∙ ap (settled live.world) (ap Ok it.2.2));
-    refused = λ live sh e is d. elim (err_bind (syntax path) (unlink_in (seen old.run)) e is) [
+    refused = λ live sh e is d. elim (err_bind (syntax path) (unlink_in (seen old.tx)) e is) [
       | inl none ↦ rw none refl
-      | inr x ↦ unlink_refused old.run sh.light.ready (limits_of old) live.world (world_shown old live sh) (reach live sh) sh.room old.charge old.chunks sh.charged sh.chunked path x.0 x.1 e x.2 d
+      | inr x ↦ unlink_refused old.tx sh.light.ready (limits_of old) live.world (world_shown old live sh) (reach live sh) sh.room old.charge old.chunks sh.charged sh.chunked path x.0 x.1 e x.2 d
     ];
     weightless = λ e w x. refl;
     quiet = λ e. refl;
     can = λ w cause. any_cause w (calls.Unlink path) refl refl refl cause;
   }
 
-  pub rmdir_removal : IsRemoval old (calls.Rmdir path) (rmdir_by (seen old.run) path)
+  pub rmdir_removal : IsRemoval old (calls.Rmdir path) (rmdir_by (seen old.tx) path)
   rmdir_removal = record {
     plan = λ live sh leaf is mid does.
-        let at = ok_bind (syntax path) (rmdir_in (seen old.run)) leaf is in
-        rmdir_plan old.run sh.light.ready (limits_of old) live.world (world_shown old live sh) (reach live sh) sh.room old.charge old.chunks sh.charged sh.chunked (open_now old.files) (listed live sh) path at.0 at.1 leaf at.2 mid does;
+        let at = ok_bind (syntax path) (rmdir_in (seen old.tx)) leaf is in
+        rmdir_plan old.tx sh.light.ready (limits_of old) live.world (world_shown old live sh) (reach live sh) sh.room old.charge old.chunks sh.charged sh.chunked (open_now old.files) (listed live sh) path at.0 at.1 leaf at.2 mid does;
     leaf = λ live sh leaf is.
         let t = live.world.tree in
-        let at = ok_bind (syntax path) (rmdir_in (seen old.run)) leaf is in
+        let at = ok_bind (syntax path) (rmdir_in (seen old.tx)) leaf is in
         let stands = stands_of old live sh in
-        let it = of_ok (RemovesLeaf (seen old.run) t stands) (rmdir_at t path) (rmdir_in (seen old.run) at.0) leaf (rmdir_same (seen old.run) t stands path at.0 at.1) at.2 in
+        let it = of_ok (RemovesLeaf (seen old.tx) t stands) (rmdir_at t path) (rmdir_in (seen old.tx) at.0) leaf (rmdir_same (seen old.tx) t stands path at.0 at.1) at.2 in
         (it.0, it.2.0, λ d. ap (λ (x : Result Place Errno). settled live.world (x >>= λ place. leaves_swept live.world (without_place t place) replies.Done)) it.1);
-    refused = λ live sh e is d. elim (err_bind (syntax path) (rmdir_in (seen old.run)) e is) [
+    refused = λ live sh e is d. elim (err_bind (syntax path) (rmdir_in (seen old.tx)) e is) [
       | inl none ↦ rw none refl
-      | inr x ↦ rmdir_refused old.run sh.light.ready (limits_of old) live.world (world_shown old live sh) (reach live sh) sh.room old.charge old.chunks sh.charged sh.chunked path x.0 x.1 e x.2 d
+      | inr x ↦ rmdir_refused old.tx sh.light.ready (limits_of old) live.world (world_shown old live sh) (reach live sh) sh.room old.charge old.chunks sh.charged sh.chunked path x.0 x.1 e x.2 d
     ];
     weightless = λ e w x. refl;
     quiet = λ e. refl;

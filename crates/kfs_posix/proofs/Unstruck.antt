@@ -41,4 +41,4 @@ plain_at k s t (Down past may) call reply uncut unfailed h = (Down past may, (ap
 pub calls_plain : CallsFailUnplannedByMemoryAlone
 calls_plain old new call reply goes counts none s shows =
     let done = goes.each s (fits old s shows) in
-    plain_at (limits_of old) s done.0 s.now call reply (no_cut old.run.machine new.run.machine reply none shows.few_cuts counts) (no_fault old.run.machine new.run.machine reply none shows.few_faults counts) done.1
+    plain_at (limits_of old) s done.0 s.now call reply (no_cut old.tx.machine new.tx.machine reply none shows.few_cuts counts) (no_fault old.tx.machine new.tx.machine reply none shows.few_faults counts) done.1

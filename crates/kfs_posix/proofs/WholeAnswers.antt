@@ -17,10 +17,10 @@ use Rattle.kfs_model.specs.declared.Answer.TheVariants as answers
 use Rattle.kfs_model.specs.Tree.{charge, chunks}
 use Rattle.kfs_model.specs.Life.{Live}
 use Rattle.kfs_shows.proofs.Counting.{few_objects}
-use Rattle.kfs_tx.specs.Run.{SameBounds, Fallen, seen}
+use Rattle.kfs_tx.specs.Tx.{SameBounds, Fallen, seen}
 use Rattle.kfs_core.specs.declared.fault.CoreFault.{CoreFault}
 use Rattle.kfs_core.specs.declared.fault.CoreFault.TheVariants.{No, Device}
-use Rattle.kfs_core.specs.Core.{KfsState, run_in, Stays}
+use Rattle.kfs_core.specs.Core.{KfsState, tx_in, Stays}
 use Rattle.kfs_core.specs.Gives.{LeavesAtFault}
 use Rattle.kfs_core.specs.Listing.{ListsAll, IsOfDevice}
 use Rattle.kfs_core.specs.Working.{WorkFails}
@@ -41,16 +41,16 @@ both_true true b e = (refl, e)
 both_true false b e = absurd (cc)
 
 -- a session on a device of few keys sees few objects
-few_seen : (b : Book) (live : Live) → ShowsLive b live → b.keys < 2 ^ 32 → objects.len (seen b.run) < 2 ^ 32
+few_seen : (b : Book) (live : Live) → ShowsLive b live → b.keys < 2 ^ 32 → objects.len (seen b.tx) < 2 ^ 32
 few_seen b live sh small =
     let h = both_true (nat_le (charge live.world.tree) b.keys) (nat_le (chunks live.world.tree) b.pages) sh.room in
     let le : charge live.world.tree ≤ b.keys = grind (arith, nat_tests, h.0) in
-    let few = few_objects (seen b.run) live.world.tree sh.tree sh.sees.tree (let h = sh.low in omega arith) in
+    let few = few_objects (seen b.tx) live.world.tree sh.tree sh.sees.tree (let h = sh.low in omega arith) in
     omega arith
 
-tree_goes : (old : Book) (items : List TreeItem) → old.down ≡ None → old.keys < 2 ^ 32 → ListsAll (seen old.run) items → GoesOn old (lines.Call calls.Tree) (answers.Reply (replies.Tree items)) old
+tree_goes : (old : Book) (items : List TreeItem) → old.down ≡ None → old.keys < 2 ^ 32 → ListsAll (seen old.tx) items → GoesOn old (lines.Call calls.Tree) (answers.Reply (replies.Tree items)) old
 tree_goes old items up small lists = idle_goes old calls.Tree (replies.Tree items) up (λ w x. refl) refl (λ live sh.
-    ap (λ xs. record { world = live.world; reply = replies.Tree xs }) (sym (told_same (seen old.run) live.world.tree (stands_of old live sh) (few_seen old live sh small) items lists)))
+    ap (λ xs. record { world = live.world; reply = replies.Tree xs }) (sym (told_same (seen old.tx) live.world.tree (stands_of old live sh) (few_seen old live sh small) items lists)))
 
 -- ---- due jobs
 
@@ -70,55 +70,55 @@ work_fallen m Off new h = record { cause = (h.0, ap (λ (x : Machine). x.faults)
 work_fallen m Failed new h = record { cause = (h.0, ap (λ (x : Machine). x.cuts) h.1); stable = ap (λ (x : Machine). x.stable) h.1; bounds = bounds_along m new _ h.1 (record { most_cuts = refl; most_faults = refl; room_keys = refl; room_pages = refl }) }
 work_fallen m Memory new h = record { cause = (ap (λ (x : Machine). x.cuts) h, ap (λ (x : Machine). x.faults) h); stable = ap (λ (x : Machine). x.stable) h; bounds = bounds_along m new _ h (record { most_cuts = refl; most_faults = refl; room_keys = refl; room_pages = refl }) }
 
-work_falls : (old new : Book) (operations : ℕ) (fault : DeviceFault) → old.down ≡ None → new.down ≡ Some (cause_of fault) → limits_of new ≡ limits_of old → WorkFault old.run.machine fault new.run.machine
+work_falls : (old new : Book) (operations : ℕ) (fault : DeviceFault) → old.down ≡ None → new.down ≡ Some (cause_of fault) → limits_of new ≡ limits_of old → WorkFault old.tx.machine fault new.tx.machine
     → Refuses old (calls.Work operations) (Device fault) new
 work_falls old new operations fault up down limits h = fall_goes old new (calls.Work operations) fault up down limits (λ live sh. record {
-  stands = old.run.machine.stable;
-  fallen = work_fallen old.run.machine fault new.run.machine (subst (λ o. IsFault o Falls old.run.machine fault new.run.machine) (λ i. cond (not (sh.light.ready.up i)) (Some Off) None) h);
+  stands = old.tx.machine.stable;
+  fallen = work_fallen old.tx.machine fault new.tx.machine (subst (λ o. IsFault o Falls old.tx.machine fault new.tx.machine) (λ i. cond (not (sh.light.ready.up i)) (Some Off) None) h);
   stood = as_before sh.saved;
   can = λ cause e. any_cause live.world (calls.Work operations) refl refl refl cause;
 })
 
 -- ---- of a session
 
-module _ (old : SessionState) (k0 k1 : KfsState) (o : Opens) (d : Option Cause) (is : state_of k0 o d ≡ old) (up : d ≡ None) (awake : (run_in k0).machine.up ≡ true) (rest : Stays k0 k1) where
+module _ (old : SessionState) (k0 k1 : KfsState) (o : Opens) (d : Option Cause) (is : state_of k0 o d ≡ old) (up : d ≡ None) (awake : (tx_in k0).machine.up ≡ true) (rest : Stays k0 k1) where
   abbrev b : Book
   b = book_of k0 o d
 
   -- answered, with all as it was
-  idle : (call : Call) (reply : Reply) → IsPlain reply → run_in k1 ≡ run_in k0 → GoesOn b (lines.Call call) (answers.Reply reply) b → Happens old call reply k1 o d
+  idle : (call : Call) (reply : Reply) → IsPlain reply → tx_in k1 ≡ tx_in k0 → GoesOn b (lines.Call call) (answers.Reply reply) b → Happens old call reply k1 o d
   idle call reply is_plain leaves goes =
-      answered old k0 k1 o o d is up call reply is_plain (run_in k0) k0.charge k0.chunks o (same_machine (run_in k0)) leaves
+      answered old k0 k1 o o d is up call reply is_plain (tx_in k0) k0.charge k0.chunks o (same_machine (tx_in k0)) leaves
       (ap (λ (k : KfsState). k.charge) rest) (ap (λ (k : KfsState). k.chunks) rest) (ap (λ (k : KfsState). k.keys) rest) (ap (λ (k : KfsState). k.pages) rest) refl goes
 
   -- down
   fails : (call : Call) (fault : CoreFault) (reply : Reply) (d1 : Option Cause) → reply ≡ refusal fault → d1 ≡ down_after d fault
-      → Counts (run_in k0).machine (refusal fault) (run_in k1).machine → Refuses b call fault (record b { run = run_in k1; down = down_after d fault }) → Fails old call fault reply k1 o d1
+      → Counts (tx_in k0).machine (refusal fault) (tx_in k1).machine → Refuses b call fault (record b { tx = tx_in k1; down = down_after d fault }) → Fails old call fault reply k1 o d1
   fails call fault reply d1 reply_is down counts goes =
       failed old k0 k1 o o d is up call fault reply d1 reply_is down
       (ap (λ (k : KfsState). k.charge) rest) (ap (λ (k : KfsState). k.chunks) rest) (ap (λ (k : KfsState). k.keys) rest) (ap (λ (k : KfsState). k.pages) rest) refl counts goes
 
-  pub tree_answered : (items : List TreeItem) → k0.keys ≤ 68544 → ListsAll (seen (run_in k0)) items → run_in k1 ≡ run_in k0 → Happens old calls.Tree (replies.Tree items) k1 o d
+  pub tree_answered : (items : List TreeItem) → k0.keys ≤ 68544 → ListsAll (seen (tx_in k0)) items → tx_in k1 ≡ tx_in k0 → Happens old calls.Tree (replies.Tree items) k1 o d
   tree_answered items small lists leaves = idle calls.Tree (replies.Tree items) (plain (λ old new h. h) (λ old new a b. (a, b))) leaves (tree_goes b items up (omega arith) lists)
 
-  pub tree_failed : (fault : CoreFault) (reply : Reply) (d1 : Option Cause) → IsOfDevice fault → LeavesAtFault (run_in k0) fault (run_in k1) → reply ≡ refusal fault → d1 ≡ down_after d fault → Fails old calls.Tree fault reply k1 o d1
-  tree_failed fault reply d1 own leaves reply_is down = fails calls.Tree fault reply d1 reply_is down (read_counts (run_in k0) (run_in k1) fault awake leaves) (by fault own leaves)
+  pub tree_failed : (fault : CoreFault) (reply : Reply) (d1 : Option Cause) → IsOfDevice fault → LeavesAtFault (tx_in k0) fault (tx_in k1) → reply ≡ refusal fault → d1 ≡ down_after d fault → Fails old calls.Tree fault reply k1 o d1
+  tree_failed fault reply d1 own leaves reply_is down = fails calls.Tree fault reply d1 reply_is down (read_counts (tx_in k0) (tx_in k1) fault awake leaves) (by fault own leaves)
     where
-      by : (fault : CoreFault) → IsOfDevice fault → LeavesAtFault (run_in k0) fault (run_in k1) → Refuses b calls.Tree fault (record b { run = run_in k1; down = down_after d fault })
+      by : (fault : CoreFault) → IsOfDevice fault → LeavesAtFault (tx_in k0) fault (tx_in k1) → Refuses b calls.Tree fault (record b { tx = tx_in k1; down = down_after d fault })
       by (No e) own leaves = absurd own
-      by (Device f) own leaves = read_falls b (record b { run = run_in k1; down = Some (cause_of f) }) calls.Tree f (λ w. refl) (λ w. refl) up refl refl leaves
+      by (Device f) own leaves = read_falls b (record b { tx = tx_in k1; down = Some (cause_of f) }) calls.Tree f (λ w. refl) (λ w. refl) up refl refl leaves
 
   module _ (operations : ℕ) where
-    pub work_answered : run_in k1 ≡ run_in k0 → Happens old (calls.Work operations) replies.Done k1 o d
+    pub work_answered : tx_in k1 ≡ tx_in k0 → Happens old (calls.Work operations) replies.Done k1 o d
     work_answered leaves = idle (calls.Work operations) replies.Done (plain (λ old new h. h) (λ old new a b. (a, b))) leaves (work_goes b operations up)
 
-    pub work_failed : (fault : CoreFault) (reply : Reply) (d1 : Option Cause) → WorkFails (run_in k0) (run_in k1) fault → reply ≡ refusal fault → d1 ≡ down_after d fault → Fails old (calls.Work operations) fault reply k1 o d1
+    pub work_failed : (fault : CoreFault) (reply : Reply) (d1 : Option Cause) → WorkFails (tx_in k0) (tx_in k1) fault → reply ≡ refusal fault → d1 ≡ down_after d fault → Fails old (calls.Work operations) fault reply k1 o d1
     work_failed fault reply d1 h reply_is down = fails (calls.Work operations) fault reply d1 reply_is down (counts fault h) (by fault h)
       where
-        counts : (fault : CoreFault) → WorkFails (run_in k0) (run_in k1) fault → Counts (run_in k0).machine (refusal fault) (run_in k1).machine
+        counts : (fault : CoreFault) → WorkFails (tx_in k0) (tx_in k1) fault → Counts (tx_in k0).machine (refusal fault) (tx_in k1).machine
         counts (No e) h = absurd h
-        counts (Device f) h = caused_counts (run_in k0).machine f (run_in k1).machine awake (alone_caused (run_in k0).machine f (run_in k1).machine h.1)
+        counts (Device f) h = caused_counts (tx_in k0).machine f (tx_in k1).machine awake (alone_caused (tx_in k0).machine f (tx_in k1).machine h.1)
 
-        by : (fault : CoreFault) → WorkFails (run_in k0) (run_in k1) fault → Refuses b (calls.Work operations) fault (record b { run = run_in k1; down = down_after d fault })
+        by : (fault : CoreFault) → WorkFails (tx_in k0) (tx_in k1) fault → Refuses b (calls.Work operations) fault (record b { tx = tx_in k1; down = down_after d fault })
         by (No e) h = absurd h
-        by (Device f) h = work_falls b (record b { run = run_in k1; down = Some (cause_of f) }) operations f up refl refl h.0
+        by (Device f) h = work_falls b (record b { tx = tx_in k1; down = Some (cause_of f) }) operations f up refl refl h.0

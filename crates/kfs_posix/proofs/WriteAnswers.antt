@@ -14,10 +14,10 @@ use Rattle.kfs_model.specs.declared.Answer.TheVariants as answers
 use Rattle.kfs_model.specs.Change.{spanned}
 use Rattle.kfs_model.specs.Step.{natural, World}
 use Rattle.kfs_model.specs.Life.{Live, can_fail}
-use Rattle.kfs_tx.specs.Run.{age_of, one_change, GetFault}
+use Rattle.kfs_tx.specs.Tx.{age_of, one_change, GetFault}
 use Rattle.kfs_core.specs.declared.fault.CoreFault.{CoreFault}
 use Rattle.kfs_core.specs.declared.fault.CoreFault.TheVariants.{No, Device}
-use Rattle.kfs_core.specs.Core.{KfsState, run_in, Same, Stays, Takes}
+use Rattle.kfs_core.specs.Core.{KfsState, tx_in, Same, Stays, Takes}
 use Rattle.kfs_core.specs.Files.{Wrote, WriteFault, with_length}
 use Rattle.kfs_core.specs.Room.{grown, chunks_for, fits_in, space_in}
 use Rattle.kfs_core.proofs.FileFaults.{write_caused}
@@ -34,25 +34,25 @@ use Rattle.kfs_posix.proofs.WriteGoes.{Puts, put_goes, same_numbers, wrote_falls
 use Rattle.kfs_posix.proofs.WriteEvents
 use Rattle.kfs_posix.proofs.Going.{errs}
 
-module _ (old : SessionState) (k0 k1 : KfsState) (o o1 : Opens) (d : Option Cause) (is : state_of k0 o d ≡ old) (up : d ≡ None) (awake : (run_in k0).machine.up ≡ true) (age : age_of (running_in old) < 2 ^ 63 - 2 ^ 40) where
+module _ (old : SessionState) (k0 k1 : KfsState) (o o1 : Opens) (d : Option Cause) (is : state_of k0 o d ≡ old) (up : d ≡ None) (awake : (tx_in k0).machine.up ≡ true) (age : age_of (running_in old) < 2 ^ 63 - 2 ^ 40) where
   abbrev b : Book
   b = book_of k0 o d
 
   -- all as it was
   unchanged : (call : Call) (n : ℕ) → Same k0 k1 → o1 ≡ o → GoesOn b (lines.Call call) (answers.Reply (replies.Number n)) b → Happens old call (replies.Number n) k1 o1 d
   unchanged call n same files goes =
-      answered old k0 k1 o o1 d is up call (replies.Number n) (number_plain n) (run_in k0) k0.charge k0.chunks o (same_machine (run_in k0)) (ap run_in same) (ap (λ (k : KfsState). k.charge) same) (ap (λ (k : KfsState). k.chunks) same) (ap (λ (k : KfsState). k.keys) same) (ap (λ (k : KfsState). k.pages) same) files goes
+      answered old k0 k1 o o1 d is up call (replies.Number n) (number_plain n) (tx_in k0) k0.charge k0.chunks o (same_machine (tx_in k0)) (ap tx_in same) (ap (λ (k : KfsState). k.charge) same) (ap (λ (k : KfsState). k.chunks) same) (ap (λ (k : KfsState). k.keys) same) (ap (λ (k : KfsState). k.pages) same) files goes
 
   refused : (call : Call) (e : Errno) (reply : Reply) (d1 : Option Cause) → reply ≡ refusal (No e) → d1 ≡ down_after d (No e) → Same k0 k1 → o1 ≡ o → GoesOn b (lines.Call call) (answers.Reply (replies.Err e)) b → Fails old call (No e) reply k1 o1 d1
   refused call e reply d1 reply_is down same files goes =
       failed old k0 k1 o o1 d is up call (No e) reply d1 reply_is down (ap (λ (k : KfsState). k.charge) same) (ap (λ (k : KfsState). k.chunks) same) (ap (λ (k : KfsState). k.keys) same) (ap (λ (k : KfsState). k.pages) same) files
-      (ap (λ (k : KfsState). (run_in k).machine.cuts) same, ap (λ (k : KfsState). (run_in k).machine.faults) same)
-      (errs b (record b { run = run_in k1 }) call e (subst (λ r. GoesOn b (lines.Call call) (answers.Reply (replies.Err e)) (record b { run = r })) (sym (ap run_in same)) goes))
+      (ap (λ (k : KfsState). (tx_in k).machine.cuts) same, ap (λ (k : KfsState). (tx_in k).machine.faults) same)
+      (errs b (record b { tx = tx_in k1 }) call e (subst (λ r. GoesOn b (lines.Call call) (answers.Reply (replies.Err e)) (record b { tx = r })) (sym (ap tx_in same)) goes))
 
   -- a call that writes
   module _ (call : Call) (can : (w : World) (cause : Cause) → can_fail w call cause ≡ true) (node size p count : ℕ) (given : List ℕ) (long : length given ≡ count) (files : Opens)
       (puts : (live : Live) → ShowsLive b live → Puts b node size p given call (replies.Number count) files live) where
-    wrote : Wrote (run_in k0) node size p given (run_in k1) → Takes k0 (chunks_for (grown size p count) - chunks_for size) k1 → o1 ≡ files → Happens old call (replies.Number count) k1 o1 d
+    wrote : Wrote (tx_in k0) node size p given (tx_in k1) → Takes k0 (chunks_for (grown size p count) - chunks_for size) k1 → o1 ≡ files → Happens old call (replies.Number count) k1 o1 d
     wrote (put, bytes, run_is) takes files_is =
         let more : chunks_for (grown size p count) - chunks_for size ≡ chunks_for (grown size p (length given)) - chunks_for size = ap (λ n. chunks_for (grown size p n) - chunks_for size) (sym long) in
         let few = low_count old k0 o d is age in
@@ -63,17 +63,17 @@ module _ (old : SessionState) (k0 k1 : KfsState) (o o1 : Opens) (d : Option Caus
         (ap (λ (k : KfsState). k.charge) takes ∙ ap (λ n. k0.charge + n) more) (ap (λ (k : KfsState). k.chunks) takes ∙ ap (λ n. k0.chunks + n) more) (ap (λ (k : KfsState). k.keys) takes) (ap (λ (k : KfsState). k.pages) takes) files_is
         (put_goes b node size p given call (replies.Number count) files few put bytes up puts)
 
-    fell : (f : DeviceFault) (reply : Reply) (d1 : Option Cause) → reply ≡ refusal (Device f) → d1 ≡ down_after d (Device f) → Stays k0 k1 → o1 ≡ o → WriteFault (run_in k0) node size p given f (run_in k1).machine → Fails old call (Device f) reply k1 o1 d1
+    fell : (f : DeviceFault) (reply : Reply) (d1 : Option Cause) → reply ≡ refusal (Device f) → d1 ≡ down_after d (Device f) → Stays k0 k1 → o1 ≡ o → WriteFault (tx_in k0) node size p given f (tx_in k1).machine → Fails old call (Device f) reply k1 o1 d1
     fell f reply d1 reply_is down rest files_is h =
         failed old k0 k1 o o1 d is up call (Device f) reply d1 reply_is down (ap (λ (k : KfsState). k.charge) rest) (ap (λ (k : KfsState). k.chunks) rest) (ap (λ (k : KfsState). k.keys) rest) (ap (λ (k : KfsState). k.pages) rest) files_is
-        (caused_counts (run_in k0).machine f (run_in k1).machine awake (write_caused (run_in k0) node size p given f (run_in k1).machine h))
-        (wrote_falls b node size p given call (replies.Number count) files (low_count old k0 o d is age) (record b { run = run_in k1; down = Some (cause_of f) }) f up refl refl can puts h)
+        (caused_counts (tx_in k0).machine f (tx_in k1).machine awake (write_caused (tx_in k0) node size p given f (tx_in k1).machine h))
+        (wrote_falls b node size p given call (replies.Number count) files (low_count old k0 o d is age) (record b { tx = tx_in k1; down = Some (cause_of f) }) f up refl refl can puts h)
 
-  pub unread : (call : Call) → ((w : World) (cause : Cause) → can_fail w call cause ≡ true) → (f : DeviceFault) (reply : Reply) (d1 : Option Cause) → reply ≡ refusal (Device f) → d1 ≡ down_after d (Device f) → Stays k0 k1 → o1 ≡ o → GetFault (run_in k0) f (run_in k1).machine → Fails old call (Device f) reply k1 o1 d1
+  pub unread : (call : Call) → ((w : World) (cause : Cause) → can_fail w call cause ≡ true) → (f : DeviceFault) (reply : Reply) (d1 : Option Cause) → reply ≡ refusal (Device f) → d1 ≡ down_after d (Device f) → Stays k0 k1 → o1 ≡ o → GetFault (tx_in k0) f (tx_in k1).machine → Fails old call (Device f) reply k1 o1 d1
   unread call can f reply d1 reply_is down rest files_is h =
       failed old k0 k1 o o1 d is up call (Device f) reply d1 reply_is down (ap (λ (k : KfsState). k.charge) rest) (ap (λ (k : KfsState). k.chunks) rest) (ap (λ (k : KfsState). k.keys) rest) (ap (λ (k : KfsState). k.pages) rest) files_is
-      (caused_counts (run_in k0).machine f (run_in k1).machine awake (alone_caused (run_in k0).machine f (run_in k1).machine h.1))
-      (unread_falls b (record b { run = run_in k1; down = Some (cause_of f) }) call f can up refl refl h)
+      (caused_counts (tx_in k0).machine f (tx_in k1).machine awake (alone_caused (tx_in k0).machine f (tx_in k1).machine h.1))
+      (unread_falls b (record b { tx = tx_in k1; down = Some (cause_of f) }) call f can up refl refl h)
 
   -- ---- write
 
@@ -96,7 +96,7 @@ module _ (old : SessionState) (k0 k1 : KfsState) (o o1 : Opens) (d : Option Caus
         subst (λ x. Happens old call (replies.Number x) k1 o1 d) (sym n_is)
         (wrote call can node size p count (take count given) (WriteEvents.taken_is b fd given it may.0 may.1 p size ok) (WriteEvents.after_files b fd given it judged short full size ok)
         (WriteEvents.write_puts b fd given it judged short full size ok)
-        (subst (λ x. Wrote (run_in k0) node size p (take x given) (run_in k1)) n_is done)
+        (subst (λ x. Wrote (tx_in k0) node size p (take x given) (tx_in k1)) n_is done)
         (subst (λ x. Takes k0 (chunks_for (grown size p x) - chunks_for size) k1) n_is takes)
         (files ∙ (λ i. moved_behind (mid_is i) it.0 p n) ∙ ap (λ x. moved_behind (relengthed o node (max it.1.length (behind p x))) it.0 p x) n_is))
 
@@ -135,7 +135,7 @@ module _ (old : SessionState) (k0 k1 : KfsState) (o o1 : Opens) (d : Option Caus
           subst (λ x. Happens old pcall (replies.Number x) k1 o1 d) (sym n_is)
           (wrote pcall pcan node size p count (take count given) (WriteEvents.taken_is b fd given it may.0 may.1 p size ok) (WriteEvents.plong b fd given offset it judged short full size ok)
           (WriteEvents.pwrite_puts b fd given offset it judged short full size ok)
-          (subst (λ x. Wrote (run_in k0) node size p (take x given) (run_in k1)) n_is done)
+          (subst (λ x. Wrote (tx_in k0) node size p (take x given) (tx_in k1)) n_is done)
           (subst (λ x. Takes k0 (chunks_for (grown size p x) - chunks_for size) k1) n_is takes)
           (files ∙ ap (λ x. relengthed o node (max it.1.length (behind p x))) n_is))
 
@@ -155,7 +155,7 @@ module _ (old : SessionState) (k0 k1 : KfsState) (o o1 : Opens) (d : Option Caus
           f reply d1 reply_is down rest files h
 
 -- no memory for the bytes
-pub no_memory : (old : SessionState) (k0 : KfsState) (o : Opens) (d : Option Cause) → state_of k0 o d ≡ old → d ≡ None → (run_in k0).machine.up ≡ true → age_of (running_in old) < 2 ^ 63 - 2 ^ 40 → (call : Call) → ((w : World) (cause : Cause) → can_fail w call cause ≡ true)
+pub no_memory : (old : SessionState) (k0 : KfsState) (o : Opens) (d : Option Cause) → state_of k0 o d ≡ old → d ≡ None → (tx_in k0).machine.up ≡ true → age_of (running_in old) < 2 ^ 63 - 2 ^ 40 → (call : Call) → ((w : World) (cause : Cause) → can_fail w call cause ≡ true)
     → (fault : CoreFault) (reply : Reply) (d1 : Option Cause) → fault ≡ Device Memory → reply ≡ refusal fault → d1 ≡ down_after d fault → Fails old call fault reply k0 o d1
 no_memory old k0 o d is up awake age call can fault reply d1 memory reply_is down =
     subst (λ f. Fails old call f reply k0 o d1) (sym memory)

@@ -23,7 +23,7 @@ use Rattle.kfs_model.specs.Desk.{Desk, opened, with_description}
 use Rattle.kfs_model.specs.Step.{World, After, settled, step, or_else, writes, content, greatest_count, with_offset, is_negative, natural, leaves, answers as answered_by}
 use Rattle.kfs_model.specs.Change.{spanned, writing, offset_of}
 use Rattle.kfs_model.specs.Life.{Live}
-use Rattle.kfs_tx.specs.Run.{seen}
+use Rattle.kfs_tx.specs.Tx.{seen}
 use Rattle.kfs_core.specs.declared.room.Space.{Space}
 use Rattle.kfs_core.specs.Files.{file_at, write_in}
 use Rattle.kfs_core.specs.Flat.{inode_in}
@@ -145,7 +145,7 @@ module _ (old : Book) (fd : ℕ) (given : List ℕ) where
     bytes_of live sh = let k = knows live sh in file_bytes live.world.tree it.1 k (k.writes may)
 
     pub here_is : (live : Live) (sh : ShowsLive old live) → here live it ≡ (bytes_of live sh).0
-    here_is live sh = let f = bytes_of live sh in content_is (seen old.run) live.world.tree (stands_of old live sh) n f.0 f.1
+    here_is live sh = let f = bytes_of live sh in content_is (seen old.tx) live.world.tree (stands_of old live sh) n f.0 f.1
 
     pub length_is : (live : Live) (sh : ShowsLive old live) → length (here live it) ≡ it.1.length
     length_is live sh = content_known live.world.tree it.1 (knows live sh)
@@ -156,7 +156,7 @@ module _ (old : Book) (fd : ℕ) (given : List ℕ) where
     -- how the judge over the objects answers
     module _ (place : ℕ) where
       abbrev pub judge : Result ℕ Errno
-      judge = write_in (seen old.run) (space_of old) n place m
+      judge = write_in (seen old.tx) (space_of old) n place m
 
       pub judged : (live : Live) (sh : ShowsLive old live) (w : World) (d : ℕ) (desc : Description) → w.tree ≡ live.world.tree → desc.node ≡ n
           → writes_some (limits_of old) w d desc given (here live it) place ≡ (judge >>= λ _. Ok (wrote_after w d desc given (here live it) place (fits (limits_of old) live.world.tree n (here live it) place m)))
@@ -165,7 +165,7 @@ module _ (old : Book) (fd : ℕ) (given : List ℕ) where
           let f = bytes_of live sh in
           let at : node_of t n ≡ Some (File (here live it)) = f.1 ∙ ap (λ b. Some (File b)) (sym (here_is live sh)) in
           (λ i. (EFBIG when nat_le greatest_length place) >> ((ENOSPC when (fits (limits_of old) (tree_is i) (node_is i) (here live it) place m == 0)) >> Ok (wrote_after w d desc given (here live it) place (fits (limits_of old) (tree_is i) (node_is i) (here live it) place m))))
-          ∙ write_answers (seen old.run) t (stands_of old live sh) n (here live it) at (wrote_after w d desc given (here live it) place (fits (limits_of old) t n (here live it) place m)) (limits_of old) (space_of old) place m (space_is old live sh) (keys_fit old live sh) (pages_fit old live sh)
+          ∙ write_answers (seen old.tx) t (stands_of old live sh) n (here live it) at (wrote_after w d desc given (here live it) place (fits (limits_of old) t n (here live it) place m)) (limits_of old) (space_of old) place m (space_is old live sh) (keys_fit old live sh) (pages_fit old live sh)
 
       module _ (size : ℕ) (ok : judge ≡ Ok size) where
         abbrev pub j : ℕ
@@ -174,7 +174,7 @@ module _ (old : Book) (fd : ℕ) (given : List ℕ) where
         pub size_is : (live : Live) → ShowsLive old live → size ≡ length (here live it)
         size_is live sh =
             let f = bytes_of live sh in
-            write_size (seen old.run) live.world.tree (stands_of old live sh) n f.0 f.1 (space_of old) place m size ok ∙ ap length (sym (here_is live sh))
+            write_size (seen old.tx) live.world.tree (stands_of old live sh) n f.0 f.1 (space_of old) place m size ok ∙ ap length (sym (here_is live sh))
 
         pub j_is : (live : Live) (sh : ShowsLive old live) → j ≡ fits (limits_of old) live.world.tree n (here live it) place m
         j_is live sh =
@@ -185,7 +185,7 @@ module _ (old : Book) (fd : ℕ) (given : List ℕ) where
 
         -- some bytes fit
         pub some : 0 < j
-        some = by (bind_ok (file_at (inode_in (seen old.run) n)) (λ size. (EFBIG when nat_le greatest_length place) >> ((ENOSPC when (fits_in (space_of old) size place m == 0)) >> Ok size)) size ok)
+        some = by (bind_ok (file_at (inode_in (seen old.tx) n)) (λ size. (EFBIG when nat_le greatest_length place) >> ((ENOSPC when (fits_in (space_of old) size place m == 0)) >> Ok size)) size ok)
           where
             last : (s : ℕ) (a b : Bool) → (fits_in (space_of old) s place m == 0) ≡ b → ((EFBIG when a) >> ((ENOSPC when b) >> Ok s)) ≡ Ok size → 0 < j
             last s true b f e = absurd (cc)
@@ -195,7 +195,7 @@ module _ (old : Book) (fd : ℕ) (given : List ℕ) where
                 let none : (fits_in (space_of old) size place m == 0) ≡ false = ap (λ x. fits_in (space_of old) x place m == 0) (sym same) ∙ f in
                 grind (arith, nat_tests)
 
-            by : (s : ℕ) × (file_at (inode_in (seen old.run) n) ≡ Ok s) × (((EFBIG when nat_le greatest_length place) >> ((ENOSPC when (fits_in (space_of old) s place m == 0)) >> Ok s)) ≡ Ok size) → 0 < j
+            by : (s : ℕ) × (file_at (inode_in (seen old.tx) n) ≡ Ok s) × (((EFBIG when nat_le greatest_length place) >> ((ENOSPC when (fits_in (space_of old) s place m == 0)) >> Ok s)) ≡ Ok size) → 0 < j
             by x = last x.0 (nat_le greatest_length place) (fits_in (space_of old) x.0 place m == 0) refl x.2
 
         abbrev pub taken : List ℕ
@@ -266,12 +266,12 @@ module _ (old : Book) (fd : ℕ) (given : List ℕ) where
         ∙ ap (λ p. settled w (writes_some (limits_of old) w it.0 it.1.it given (here live it) p)) (place_is it is_may.0 is_may.1 live sh)
         ∙ ap (settled w) (judged it is_may.0 is_may.1 place live sh w it.0 it.1.it refl refl)
 
-    pub write_denied : (e : Errno) → old.down ≡ None → write_in (seen old.run) (space_of old) it.1.it.node place m ≡ Err e → GoesOn old (lines.Call call) (answers.Reply (replies.Err e)) old
+    pub write_denied : (e : Errno) → old.down ≡ None → write_in (seen old.tx) (space_of old) it.1.it.node place m ≡ Err e → GoesOn old (lines.Call call) (answers.Reply (replies.Err e)) old
     write_denied e up denied = idle_goes old call (replies.Err e) up (λ w x. refl) refl (λ live sh.
         rested live sh ∙ ap (λ r. settled (world_in live.world.tree o) (r >>= λ _. Ok (wrote_after (world_in live.world.tree o) it.0 it.1.it given (here live it) place (fits (limits_of old) live.world.tree it.1.it.node (here live it) place m)))) denied
         ∙ as_it_was live sh (replies.Err e))
 
-    module _ (size : ℕ) (ok : write_in (seen old.run) (space_of old) it.1.it.node place m ≡ Ok size) where
+    module _ (size : ℕ) (ok : write_in (seen old.tx) (space_of old) it.1.it.node place m ≡ Ok size) where
       abbrev pub count : ℕ
       count = fits_in (space_of old) size place m
 
@@ -425,11 +425,11 @@ module _ (old : Book) (fd : ℕ) (given : List ℕ) where
             pbegun live sh false false small full
             ∙ ap (λ r. settled w (r >>= left live)) (judged it p_may.0 p_may.1 point live sh w it.0 (pointed it.1.it) refl refl)
 
-        pub pwrite_denied : (e : Errno) → old.down ≡ None → write_in (seen old.run) (space_of old) it.1.it.node point m ≡ Err e → GoesOn old (lines.Call pcall) (answers.Reply (replies.Err e)) old
+        pub pwrite_denied : (e : Errno) → old.down ≡ None → write_in (seen old.tx) (space_of old) it.1.it.node point m ≡ Err e → GoesOn old (lines.Call pcall) (answers.Reply (replies.Err e)) old
         pwrite_denied e up denied = idle_goes old pcall (replies.Err e) up (λ w x. refl) refl (λ live sh.
             prested live sh ∙ ap (λ r. settled (world_in live.world.tree o) ((r >>= λ _. Ok (pafter live)) >>= left live)) denied ∙ as_it_was live sh (replies.Err e))
 
-        module _ (size : ℕ) (ok : write_in (seen old.run) (space_of old) it.1.it.node point m ≡ Ok size) where
+        module _ (size : ℕ) (ok : write_in (seen old.tx) (space_of old) it.1.it.node point m ≡ Ok size) where
           abbrev pub pcount : ℕ
           pcount = fits_in (space_of old) size point m
 

@@ -11,7 +11,7 @@ use Rattle.kfs_model.specs.Tree.{Tree, node_of, with_node, written, charge, chun
 use Rattle.kfs_model.specs.Step.{World, After, step}
 use Rattle.kfs_model.specs.Change.{weight, spanned, is_boundary}
 use Rattle.kfs_model.specs.Life.{Live, can_fail}
-use Rattle.kfs_tx.specs.Run.{Run, SameBounds, Fallen, seen, committed, counted, one_change, with_super, is_full}
+use Rattle.kfs_tx.specs.Tx.{Tx, SameBounds, Fallen, seen, committed, counted, one_change, with_super, is_full}
 use Rattle.kfs_core.specs.Files.{PutsBytes, WriteFault, with_length}
 use Rattle.kfs_core.specs.Room.{grown, chunks_for}
 use Rattle.kfs_core.proofs.FileEffects.{put_numbers, length_ready, length_few, new_is_tree, new_shows, charge_after, chunks_after}
@@ -39,19 +39,19 @@ pub record Puts (old : Book) (n size p : ℕ) (given : List ℕ) (call : Call) (
   pub room : has_room (limits_of old) (with_node live.world.tree n (File (written bytes p given))) ≡ true
 
 -- a boundary leaves the device's counts
-pub keeps : (r : Run) (b : Bool) → SameBounds r.machine (cond b (committed r) r).machine × SameMachine r.machine (cond b (committed r) r).machine
+pub keeps : (r : Tx) (b : Bool) → SameBounds r.machine (cond b (committed r) r).machine × SameMachine r.machine (cond b (committed r) r).machine
 keeps r true = (record { most_cuts = refl; most_faults = refl; room_keys = refl; room_pages = refl }, record { up = refl; cuts = refl; faults = refl })
 keeps r false = (record { most_cuts = refl; most_faults = refl; room_keys = refl; room_pages = refl }, record { up = refl; cuts = refl; faults = refl })
 
-module _ (old : Book) (n size p : ℕ) (given : List ℕ) (call : Call) (reply : Reply) (files : Opens) (count : old.run.changes + 1 < 2 ^ 63) where
+module _ (old : Book) (n size p : ℕ) (given : List ℕ) (call : Call) (reply : Reply) (files : Opens) (count : old.tx.changes + 1 < 2 ^ 63) where
   abbrev more : ℕ
   more = chunks_for (grown size p (length given)) - chunks_for size
 
   abbrev w : ℕ
   w = 2 + spanned p (length given)
 
-  module _ (put : Run) (puts : PutsBytes old.run n p given put) where
-    abbrev r : ℕ → Run
+  module _ (put : Tx) (puts : PutsBytes old.tx n p given put) where
+    abbrev r : ℕ → Tx
     r was = with_length put n (grown was p (length given))
 
     record Planned (was : ℕ) (tree : Tree) : Type 0 where
@@ -65,12 +65,12 @@ module _ (old : Book) (n size p : ℕ) (given : List ℕ) (call : Call) (reply :
         let stands = stands_of old live sh in
         let bytes = it.bytes in
         let long = length bytes in
-        let numbers = put_numbers old.run put n p given puts (grown long p (length given)) in
+        let numbers = put_numbers old.tx put n p given puts (grown long p (length given)) in
         subst (λ s. Planned s (with_node t n (File (written bytes p given)))) (sym it.size_is) (record {
           put_is = record {
-            ready = length_ready old.run put n p given puts sh.light.ready (grown long p (length given));
-            tree = new_is_tree old.run put n p given puts sh.light.ready t stands bytes it.file it.fits;
-            shows = new_shows old.run put n p given puts sh.light.ready t stands bytes it.file it.fits;
+            ready = length_ready old.tx put n p given puts sh.light.ready (grown long p (length given));
+            tree = new_is_tree old.tx put n p given puts sh.light.ready t stands bytes it.file it.fits;
+            shows = new_shows old.tx put n p given puts sh.light.ready t stands bytes it.file it.fits;
             low = sh.low;
             few_changes = let c = numbers.changes in omega arith;
             next_is = numbers.next ∙ sh.next;
@@ -79,16 +79,16 @@ module _ (old : Book) (n size p : ℕ) (given : List ℕ) (call : Call) (reply :
             weight = numbers.weight;
             stable = numbers.stable;
             bounds = numbers.bounds;
-            few = length_few old.run put n p given puts sh.light.ready (grown long p (length given)) old.run.weight it.some sh.light.few;
+            few = length_few old.tx put n p given puts sh.light.ready (grown long p (length given)) old.tx.weight it.some sh.light.few;
             room = it.room;
           };
           charged = ap (λ c. c + (chunks_for (grown long p (length given)) - chunks_for long)) sh.charged ∙ charge_after t n bytes sh.tree it.file p given;
           chunked = ap (λ c. c + (chunks_for (grown long p (length given)) - chunks_for long)) sh.chunked ∙ chunks_after t n bytes sh.tree it.file p given;
         })
 
-    pub same_numbers : SameMachine old.run.machine (one_change (r size) w put.next).machine × SameBounds old.run.machine (one_change (r size) w put.next).machine
+    pub same_numbers : SameMachine old.tx.machine (one_change (r size) w put.next).machine × SameBounds old.tx.machine (one_change (r size) w put.next).machine
     same_numbers =
-        let numbers = put_numbers old.run put n p given puts (grown size p (length given)) in
+        let numbers = put_numbers old.tx put n p given puts (grown size p (length given)) in
         let k = keeps (counted (r size) w put.next) (is_full ((r size).since + 1) ((r size).weight + w)) in
         let a = k.1 in
         let b = k.0 in (
@@ -97,9 +97,9 @@ module _ (old : Book) (n size p : ℕ) (given : List ℕ) (call : Call) (reply :
         )
 
     pub put_goes : old.down ≡ None → ((live : Live) → ShowsLive old live → Puts old n size p given call reply files live)
-        → GoesOn old (lines.Call call) (answers.Reply reply) (record old { run = one_change (r size) w put.next; charge = old.charge + more; chunks = old.chunks + more; files = files })
+        → GoesOn old (lines.Call call) (answers.Reply reply) (record old { tx = one_change (r size) w put.next; charge = old.charge + more; chunks = old.chunks + more; files = files })
     put_goes up puts_at =
-        change_goes_at old (record old { run = one_change (r size) w put.next; charge = old.charge + more; chunks = old.chunks + more; files = files }) call reply w (spare old) (spare_free old) up same_numbers.0.cuts same_numbers.0.faults same_numbers.1
+        change_goes_at old (record old { tx = one_change (r size) w put.next; charge = old.charge + more; chunks = old.chunks + more; files = files }) call reply w (spare old) (spare_free old) up same_numbers.0.cuts same_numbers.0.faults same_numbers.1
         (λ live sh.
         let it = puts_at live sh in
         let plan = planned live sh it in
@@ -108,15 +108,15 @@ module _ (old : Book) (n size p : ℕ) (given : List ℕ) (call : Call) (reply :
 
   pub wrote_falls : (new : Book) (fault : DeviceFault) → old.down ≡ None → new.down ≡ Some (cause_of fault) → limits_of new ≡ limits_of old → ((world : World) (cause : Cause) → can_fail world call cause ≡ true)
       → ((live : Live) → ShowsLive old live → Puts old n size p given call reply files live)
-      → WriteFault old.run n size p given fault new.run.machine → Refuses old call (Device fault) new
+      → WriteFault old.tx n size p given fault new.tx.machine → Refuses old call (Device fault) new
   wrote_falls new fault up down same can puts_at h = fall_goes old new call fault up down same (λ live sh.
       let it = puts_at live sh in
       let tree = with_node live.world.tree n (File (written it.bytes p given)) in
-      let before : Fallen old.run.machine fault old.run.machine.stable new.run.machine → Fell old new live call fault = λ a. record { stands = old.run.machine.stable; fallen = a; stood = as_before sh.saved; can = λ cause e. can live.world cause } in
-      elim (write_falls old.run n size p given fault new.run.machine sh.light.ready (let f = sh.light.few in let l = sh.light.light in omega arith) it.fits (λ put puts.
+      let before : Fallen old.tx.machine fault old.tx.machine.stable new.tx.machine → Fell old new live call fault = λ a. record { stands = old.tx.machine.stable; fallen = a; stood = as_before sh.saved; can = λ cause e. can live.world cause } in
+      elim (write_falls old.tx n size p given fault new.tx.machine sh.light.ready (let f = sh.light.few in let l = sh.light.light in omega arith) it.fits (λ put puts.
       let plan = planned put puts live sh it in
       let shows = sees old live sh (r put puts size) tree w put.next (old.charge + more) (old.chunks + more) plan.put_is plan.charged plan.chunked files it.holds in
-      room_for (seen (with_super (r put puts size) put.next)) tree (live.past.count + 1) (limits_of old) old.run.machine plan.put_is.tree shows (let h = plan.put_is.low in omega arith) plan.put_is.room sh.keys sh.pages) h) [
+      room_for (seen (with_super (r put puts size) put.next)) tree (live.past.count + 1) (limits_of old) old.tx.machine plan.put_is.tree shows (let h = plan.put_is.low in omega arith) plan.put_is.room sh.keys sh.pages) h) [
         | inl a ↦ before a
         | inr x ↦
             let put = x.0 in

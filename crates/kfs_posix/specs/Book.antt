@@ -7,13 +7,13 @@ use Rattle.kv_device.specs.declared.fault.DeviceFault.TheVariants.{Off, Failed}
 use Rattle.kfs_path.specs.declared.call.Cause.{Cause}
 use Rattle.kfs_path.specs.declared.call.Cause.TheVariants.{Cut, Eio, NoMem}
 use Rattle.kfs_model.specs.Tree.{Limits}
-use Rattle.kfs_tx.specs.Run.{Run, RunState}
-use Rattle.kfs_tx.specs.Codes.{run_code, asked_code}
+use Rattle.kfs_tx.specs.Tx.{Tx, RunningState}
+use Rattle.kfs_tx.specs.Codes.{tx_code, asked_code}
 use Rattle.kfs_core.specs.Core.{KfsState}
 use Rattle.kfs_posix.specs.Opens.{Opens, opens_code}
 
 pub record Book : Type 0 where
-  pub run : Run
+  pub tx : Tx
   pub keys : ℕ
   pub pages : ℕ
   pub charge : ℕ
@@ -28,14 +28,14 @@ pub record SessionState : Type 0 where
   pub asked : Asked
 
 abbrev pub book_of : KfsState → Opens → Option Cause → Book
-book_of kfs files down = record { run = kfs.running.run; keys = kfs.keys; pages = kfs.pages; charge = kfs.charge; chunks = kfs.chunks; files = files; down = down }
+book_of kfs files down = record { tx = kfs.running.tx; keys = kfs.keys; pages = kfs.pages; charge = kfs.charge; chunks = kfs.chunks; files = files; down = down }
 
 abbrev pub state_of : KfsState → Opens → Option Cause → SessionState
 state_of kfs files down = record { book = book_of kfs files down; device_age = kfs.running.device_age; asked = kfs.running.asked }
 
 -- its running transaction
-abbrev pub running_in : SessionState → RunState
-running_in s = record { run = s.book.run; device_age = s.device_age; asked = s.asked }
+abbrev pub running_in : SessionState → RunningState
+running_in s = record { tx = s.book.tx; device_age = s.device_age; asked = s.asked }
 
 abbrev pub limits_of : Book → Limits
 limits_of b = record { keys = b.keys; pages = b.pages }
@@ -64,9 +64,9 @@ cause_at-number_of NoMem = refl
 
 abbrev pub book_code : Coded Book
 book_code =
-    code_by (Run × (ℕ × (ℕ × (ℕ × (ℕ × (Opens × Option Cause)))))) (coded× run_code (coded× coded_ℕ (coded× coded_ℕ (coded× coded_ℕ (coded× coded_ℕ (coded× opens_code (coded_option (code_by ℕ coded_ℕ number_of cause_at cause_at-number_of))))))))
-    (λ b. (b.run, (b.keys, (b.pages, (b.charge, (b.chunks, (b.files, b.down)))))))
-    (λ p. record { run = p.0; keys = p.1.0; pages = p.1.1.0; charge = p.1.1.1.0; chunks = p.1.1.1.1.0; files = p.1.1.1.1.1.0; down = p.1.1.1.1.1.1 })
+    code_by (Tx × (ℕ × (ℕ × (ℕ × (ℕ × (Opens × Option Cause)))))) (coded× tx_code (coded× coded_ℕ (coded× coded_ℕ (coded× coded_ℕ (coded× coded_ℕ (coded× opens_code (coded_option (code_by ℕ coded_ℕ number_of cause_at cause_at-number_of))))))))
+    (λ b. (b.tx, (b.keys, (b.pages, (b.charge, (b.chunks, (b.files, b.down)))))))
+    (λ p. record { tx = p.0; keys = p.1.0; pages = p.1.1.0; charge = p.1.1.1.0; chunks = p.1.1.1.1.0; files = p.1.1.1.1.1.0; down = p.1.1.1.1.1.1 })
     (λ _. refl)
 
 abbrev pub session_code : Coded SessionState

@@ -4,6 +4,6 @@ use Rattle.kfs_core.specs.Bounds.{IsLight}
 use Rattle.kfs_posix.specs.Book.{Book}
 use Rattle.kfs_posix.specs.Showing.{ShowsLive}
 
--- whatever live state an up session shows, its run is light
+-- whatever live state an up session shows, its tx is light
 abbrev pub SessionsAreLight : Type 0
-SessionsAreLight = (b : Book) (live : Live) → ShowsLive b live → IsLight b.run
+SessionsAreLight = (b : Book) (live : Live) → ShowsLive b live → IsLight b.tx

@@ -15,4 +15,4 @@ IsStored m t k = IsSaved (limits_in m) m.stable t k
 
 -- whatever it holds, the session goes on from there
 pub record Mounts (old : Machine) (new : Book) : Type 0 where
-  pub each : (past : Past) (k : ℕ) → IsStored old (tree_at past k) k → (new.run.changes ≡ k) × ShowsLive new (up_at past k)
+  pub each : (past : Past) (k : ℕ) → IsStored old (tree_at past k) k → (new.tx.changes ≡ k) × ShowsLive new (up_at past k)

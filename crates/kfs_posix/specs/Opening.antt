@@ -11,11 +11,11 @@ use Rattle.kfs_path.specs.declared.call.Flags.{Flags}
 use Rattle.kfs_model.specs.Ladder.{◌>>=◌, ◌>>◌, ◌when◌}
 use Rattle.kfs_model.specs.Desk.{lowest_free}
 use Rattle.kfs_model.specs.Step.{Route, syntax, or_else}
-use Rattle.kfs_tx.specs.Run.{Run, GetFault}
+use Rattle.kfs_tx.specs.Tx.{Tx, GetFault}
 use Rattle.kfs_core.specs.declared.fault.CoreFault.{CoreFault}
 use Rattle.kfs_core.specs.declared.fault.CoreFault.TheVariants.{No, Device}
 use Rattle.kfs_core.specs.declared.room.Space.{Space}
-use Rattle.kfs_core.specs.Core.{KfsState, run_in}
+use Rattle.kfs_core.specs.Core.{KfsState, tx_in}
 use Rattle.kfs_core.specs.Flat.{Where, reach_in, create_at}
 use Rattle.kfs_core.specs.Making.{parent_of, created, CreateFault}
 use Rattle.kfs_core.specs.Resizing.{resize_in, ResizesTo, ResizeFault}
@@ -95,19 +95,19 @@ pub record OpensCut (o : Opens) (fd : ℕ) (file : OpenFile) (new : Opens) : Typ
 -- what opening did
 abbrev pub IsOpened : KfsState → Opens → Flags → Opening → ℕ → KfsState → Opens → Type 0
 IsOpened k o flags (New w n) fd new files =
-    (fd ≡ n) × (run_in new ≡ created (run_in k) (parent_of w) w.name) × (new.charge ≡ k.charge + 2) × (new.chunks ≡ k.chunks) × OpensAs o n (opened_file (run_in k).next true 0 flags) files
-IsOpened k o flags (There n file) fd new files = (fd ≡ n) × (run_in new ≡ run_in k) × (new.charge ≡ k.charge) × (new.chunks ≡ k.chunks) × OpensAs o n file files
+    (fd ≡ n) × (tx_in new ≡ created (tx_in k) (parent_of w) w.name) × (new.charge ≡ k.charge + 2) × (new.chunks ≡ k.chunks) × OpensAs o n (opened_file (tx_in k).next true 0 flags) files
+IsOpened k o flags (There n file) fd new files = (fd ≡ n) × (tx_in new ≡ tx_in k) × (new.charge ≡ k.charge) × (new.chunks ≡ k.chunks) × OpensAs o n file files
 IsOpened k o flags (Cut n file was) fd new files = (fd ≡ n) × ResizesTo (was == 0) k file.it.node was 0 new × OpensCut o n file files
 
-abbrev pub OpenFault : Run → Result Opening Errno → DeviceFault → Machine → Type 0
+abbrev pub OpenFault : Tx → Result Opening Errno → DeviceFault → Machine → Type 0
 OpenFault r judged fault new =
     GetFault r fault new
     ⊎ ((w : Where) × (fd : ℕ) × (judged ≡ Ok (New w fd)) × CreateFault r (parent_of w) w.name fault new)
     ⊎ ((fd : ℕ) × (file : OpenFile) × (was : ℕ) × (judged ≡ Ok (Cut fd file was)) × ((was == 0) ≡ false) × ResizeFault r file.it.node was 0 fault new)
 
 abbrev pub OpenFails : KfsState → Opens → Result Opening Errno → CoreFault → KfsState → Opens → Type 0
-OpenFails k o judged (No e) new files = (judged ≡ Err e) × (run_in new ≡ run_in k) × (new.charge ≡ k.charge) × (new.chunks ≡ k.chunks) × (files ≡ o)
-OpenFails k o judged (Device fault) new files = OpenFault (run_in k) judged fault (run_in new).machine × (new.charge ≡ k.charge) × (new.chunks ≡ k.chunks) × (files ≡ o)
+OpenFails k o judged (No e) new files = (judged ≡ Err e) × (tx_in new ≡ tx_in k) × (new.charge ≡ k.charge) × (new.chunks ≡ k.chunks) × (files ≡ o)
+OpenFails k o judged (Device fault) new files = OpenFault (tx_in k) judged fault (tx_in new).machine × (new.charge ≡ k.charge) × (new.chunks ≡ k.chunks) × (files ≡ o)
 
 abbrev pub OpenDoes : KfsState → Opens → Flags → Result Opening Errno → Result ℕ CoreFault → KfsState → Opens → Type 0
 OpenDoes k o flags judged (Ok fd) new files = (x : Opening) × (judged ≡ Ok x) × IsOpened k o flags x fd new files

@@ -3,9 +3,9 @@ use Rattle.std.specs.Prelude.{ℕ, ◌<◌, ◌-◌, ◌^◌, List, Err, None, �
 use Rattle.kfs_path.specs.declared.call.Flags.{Flags}
 use Rattle.kfs_model.specs.Life.{Live}
 use Rattle.kfs_model.specs.Step.{natural}
-use Rattle.kfs_tx.specs.Run.{seen, age_of}
+use Rattle.kfs_tx.specs.Tx.{seen, age_of}
 use Rattle.kfs_core.specs.declared.fault.CoreFault.{CoreFault}
-use Rattle.kfs_core.specs.Core.{KfsState, run_in}
+use Rattle.kfs_core.specs.Core.{KfsState, tx_in}
 use Rattle.kfs_core.specs.Flat.{place_in}
 use Rattle.kfs_core.specs.Gives.{CommitFails, LeavesAtFault}
 use Rattle.kfs_core.specs.Making.{MkdirFails}
@@ -34,19 +34,19 @@ IsNeverRefused May = (k new : KfsState) (o files : Opens) (live : Live) (fault :
 -- ---- by what the calls leave where they fail
 
 abbrev pub ReadingIsNeverRefused : Type 0
-ReadingIsNeverRefused = IsNeverRefused (λ k o fault new files. LeavesAtFault (run_in k) fault (run_in new))
+ReadingIsNeverRefused = IsNeverRefused (λ k o fault new files. LeavesAtFault (tx_in k) fault (tx_in new))
 
 abbrev pub CommittingIsNeverRefused : Type 0
-CommittingIsNeverRefused = IsNeverRefused (λ k o fault new files. CommitFails (run_in k) (run_in new) fault)
+CommittingIsNeverRefused = IsNeverRefused (λ k o fault new files. CommitFails (tx_in k) (tx_in new) fault)
 
 abbrev pub WorkingIsNeverRefused : Type 0
-WorkingIsNeverRefused = IsNeverRefused (λ k o fault new files. WorkFails (run_in k) (run_in new) fault)
+WorkingIsNeverRefused = IsNeverRefused (λ k o fault new files. WorkFails (tx_in k) (tx_in new) fault)
 
 abbrev pub MkdirIsNeverRefused : Type 0
-MkdirIsNeverRefused = (path : List ℕ) → IsNeverRefused (λ k o fault new files. MkdirFails (run_in k) (place_in (seen (run_in k)) k.keys k.charge path) fault (run_in new))
+MkdirIsNeverRefused = (path : List ℕ) → IsNeverRefused (λ k o fault new files. MkdirFails (tx_in k) (place_in (seen (tx_in k)) k.keys k.charge path) fault (tx_in new))
 
 abbrev pub OpeningIsNeverRefused : Type 0
-OpeningIsNeverRefused = (path : List ℕ) (flags : Flags) → IsNeverRefused (λ k o fault new files. OpenDoes k o flags (open_in (seen (run_in k)) (space_in k) o path flags) (Err fault) new files)
+OpeningIsNeverRefused = (path : List ℕ) (flags : Flags) → IsNeverRefused (λ k o fault new files. OpenDoes k o flags (open_in (seen (tx_in k)) (space_in k) o path flags) (Err fault) new files)
 
 abbrev pub WritingIsNeverRefused : Type 0
 WritingIsNeverRefused = (fd : ℕ) (given : List ℕ) → IsNeverRefused (λ k o fault new files. FdWriteDoes k o (writable_in o fd) given (Err fault) new files)
@@ -55,19 +55,19 @@ abbrev pub PwriteIsNeverRefused : Type 0
 PwriteIsNeverRefused = (fd : ℕ) (given : List ℕ) (offset : ℤ) → IsNeverRefused (λ k o fault new files. PwriteDoes k o (writable_at o fd offset) (natural offset) given (Err fault) new files)
 
 abbrev pub TruncateIsNeverRefused : Type 0
-TruncateIsNeverRefused = (path : List ℕ) (size : ℤ) → IsNeverRefused (λ k o fault new files. NotResized k o (truncate_by (seen (run_in k)) (space_in k) path size) (natural size) fault new files)
+TruncateIsNeverRefused = (path : List ℕ) (size : ℤ) → IsNeverRefused (λ k o fault new files. NotResized k o (truncate_by (seen (tx_in k)) (space_in k) path size) (natural size) fault new files)
 
 abbrev pub FtruncateIsNeverRefused : Type 0
-FtruncateIsNeverRefused = (fd : ℕ) (size : ℤ) → IsNeverRefused (λ k o fault new files. NotResized k o (ftruncate_in (seen (run_in k)) (space_in k) o fd size) (natural size) fault new files)
+FtruncateIsNeverRefused = (fd : ℕ) (size : ℤ) → IsNeverRefused (λ k o fault new files. NotResized k o (ftruncate_in (seen (tx_in k)) (space_in k) o fd size) (natural size) fault new files)
 
 abbrev pub UnlinkIsNeverRefused : Type 0
-UnlinkIsNeverRefused = (path : List ℕ) → IsNeverRefused (λ k o fault new files. UnnameFails k o (unlink_by (seen (run_in k)) path) fault new files)
+UnlinkIsNeverRefused = (path : List ℕ) → IsNeverRefused (λ k o fault new files. UnnameFails k o (unlink_by (seen (tx_in k)) path) fault new files)
 
 abbrev pub RmdirIsNeverRefused : Type 0
-RmdirIsNeverRefused = (path : List ℕ) → IsNeverRefused (λ k o fault new files. UnnameFails k o (rmdir_by (seen (run_in k)) path) fault new files)
+RmdirIsNeverRefused = (path : List ℕ) → IsNeverRefused (λ k o fault new files. UnnameFails k o (rmdir_by (seen (tx_in k)) path) fault new files)
 
 abbrev pub RenameIsNeverRefused : Type 0
-RenameIsNeverRefused = (from to : List ℕ) → IsNeverRefused (λ k o fault new files. NotRenamed k o (rename_by (seen (run_in k)) from to) fault new files)
+RenameIsNeverRefused = (from to : List ℕ) → IsNeverRefused (λ k o fault new files. NotRenamed k o (rename_by (seen (tx_in k)) from to) fault new files)
 
 abbrev pub CloseIsNeverRefused : Type 0
 CloseIsNeverRefused = (fd : ℕ) → IsNeverRefused (λ k o fault new files. CloseDoes {X = Unit {0}} k o fd (Err fault) new files)

@@ -4,10 +4,10 @@ use Rattle.kv_device.specs.Objects.{Objects}
 use Rattle.kfs_path.specs.declared.call.Errno.{Errno}
 use Rattle.kfs_model.specs.Ladder.{◌>>=◌}
 use Rattle.kfs_model.specs.Step.{syntax}
-use Rattle.kfs_tx.specs.Run.{GetFault}
+use Rattle.kfs_tx.specs.Tx.{GetFault}
 use Rattle.kfs_core.specs.declared.fault.CoreFault.{CoreFault}
 use Rattle.kfs_core.specs.declared.fault.CoreFault.TheVariants.{No, Device}
-use Rattle.kfs_core.specs.Core.{KfsState, run_in, Stays, Same}
+use Rattle.kfs_core.specs.Core.{KfsState, tx_in, Stays, Same}
 use Rattle.kfs_core.specs.declared.removing.Leaf.{Leaf}
 use Rattle.kfs_core.specs.Removing.{is_open_in, unlink_in, rmdir_in, Unlinks, UnlinkFault, Frees, keys_gone, chunks_gone}
 use Rattle.kfs_posix.specs.Opens.{Opens, nodes_of, without_name}
@@ -27,7 +27,7 @@ open_now o = is_open_in (nodes_of o)
 pub record Unnamed (old : KfsState) (o : Opens) (judged : Result Leaf Errno) (new : KfsState) (files : Opens) : Type 0 where
   pub leaf : Leaf
   pub judge : judged ≡ Ok leaf
-  pub effect : Unlinks (run_in old) leaf (open_now o leaf.node) (run_in new)
+  pub effect : Unlinks (tx_in old) leaf (open_now o leaf.node) (tx_in new)
   pub frees : Frees old (keys_gone leaf (open_now o leaf.node)) (chunks_gone leaf (open_now o leaf.node)) new
   pub files_are : files ≡ without_name o leaf.node
 
@@ -35,7 +35,7 @@ abbrev pub UnnameFails : KfsState → Opens → Result Leaf Errno → CoreFault 
 UnnameFails old o judged (No e) new files = (judged ≡ Err e) × Same old new × (files ≡ o)
 UnnameFails old o judged (Device fault) new files =
     Stays old new × (files ≡ o)
-    × (GetFault (run_in old) fault (run_in new).machine ⊎ ((leaf : Leaf) × (judged ≡ Ok leaf) × UnlinkFault (run_in old) leaf (open_now o leaf.node) fault (run_in new).machine))
+    × (GetFault (tx_in old) fault (tx_in new).machine ⊎ ((leaf : Leaf) × (judged ≡ Ok leaf) × UnlinkFault (tx_in old) leaf (open_now o leaf.node) fault (tx_in new).machine))
 
 -- what taking a name away did: the judge over the objects, the effect, what is free then, and the open files
 abbrev pub UnnameDoes : {X : Type 0} → KfsState → Opens → Result Leaf Errno → Result X CoreFault → KfsState → Opens → Type 0

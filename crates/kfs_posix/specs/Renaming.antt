@@ -5,11 +5,11 @@ use Rattle.kv_device.specs.Objects.{Objects}
 use Rattle.kfs_path.specs.declared.call.Errno.{Errno}
 use Rattle.kfs_model.specs.Ladder.{◌>>=◌}
 use Rattle.kfs_model.specs.Step.{syntax}
-use Rattle.kfs_tx.specs.Run.{GetFault}
+use Rattle.kfs_tx.specs.Tx.{GetFault}
 use Rattle.kfs_core.specs.declared.fault.CoreFault.{CoreFault}
 use Rattle.kfs_core.specs.declared.fault.CoreFault.TheVariants.{No, Device}
 use Rattle.kfs_core.specs.declared.renaming.Move.{Move}
-use Rattle.kfs_core.specs.Core.{KfsState, run_in, Stays, Same}
+use Rattle.kfs_core.specs.Core.{KfsState, tx_in, Stays, Same}
 use Rattle.kfs_core.specs.Renaming.{rename_in, replaced_node, MovesTo, MoveFault}
 use Rattle.kfs_posix.specs.Opens.{Opens, without_name}
 use Rattle.kfs_posix.specs.Removing.{open_now}
@@ -34,7 +34,7 @@ abbrev pub NotRenamed : KfsState → Opens → Result (Option Move) Errno → Co
 NotRenamed old o judged (No e) new files = (judged ≡ Err e) × Same old new × (files ≡ o)
 NotRenamed old o judged (Device fault) new files =
     Stays old new × (files ≡ o)
-    × (GetFault (run_in old) fault (run_in new).machine ⊎ ((move : Move) × (judged ≡ Ok (Some move)) × MoveFault (run_in old) move (open_now o) fault (run_in new).machine))
+    × (GetFault (tx_in old) fault (tx_in new).machine ⊎ ((move : Move) × (judged ≡ Ok (Some move)) × MoveFault (tx_in old) move (open_now o) fault (tx_in new).machine))
 
 -- what renaming did
 abbrev pub RenameDone : {X : Type 0} → KfsState → Opens → Result (Option Move) Errno → Result X CoreFault → KfsState → Opens → Type 0

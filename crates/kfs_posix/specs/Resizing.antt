@@ -5,11 +5,11 @@ use Rattle.kfs_path.specs.declared.call.Errno.{Errno}
 use Rattle.kfs_path.specs.declared.call.Errno.TheVariants.{EINVAL, ENOENT, EISDIR, ENOTDIR}
 use Rattle.kfs_model.specs.Ladder.{◌>>=◌, ◌>>◌, ◌when◌}
 use Rattle.kfs_model.specs.Step.{Route, syntax, is_negative, natural}
-use Rattle.kfs_tx.specs.Run.{GetFault}
+use Rattle.kfs_tx.specs.Tx.{GetFault}
 use Rattle.kfs_core.specs.declared.fault.CoreFault.{CoreFault}
 use Rattle.kfs_core.specs.declared.fault.CoreFault.TheVariants.{No, Device}
 use Rattle.kfs_core.specs.declared.room.Space.{Space}
-use Rattle.kfs_core.specs.Core.{KfsState, run_in, Stays, Same}
+use Rattle.kfs_core.specs.Core.{KfsState, tx_in, Stays, Same}
 use Rattle.kfs_core.specs.Flat.{reach_in}
 use Rattle.kfs_core.specs.Resizing.{resize_in, ResizesTo, ResizeFault}
 use Rattle.kfs_posix.specs.Opens.{Opens, relengthed}
@@ -60,7 +60,7 @@ abbrev pub NotResized : KfsState → Opens → Result (ℕ × ℕ) Errno → ℕ
 NotResized k o judged size (No e) new files = (judged ≡ Err e) × Same k new × (files ≡ o)
 NotResized k o judged size (Device fault) new files =
     Stays k new × (files ≡ o)
-    × (GetFault (run_in k) fault (run_in new).machine ⊎ ((it : ℕ × ℕ) × (judged ≡ Ok it) × ((it.1 == size) ≡ false) × ResizeFault (run_in k) it.0 it.1 size fault (run_in new).machine))
+    × (GetFault (tx_in k) fault (tx_in new).machine ⊎ ((it : ℕ × ℕ) × (judged ≡ Ok it) × ((it.1 == size) ≡ false) × ResizeFault (tx_in k) it.0 it.1 size fault (tx_in new).machine))
 
 -- what giving a file a length did: the judge over the objects, the effect, and the open files
 abbrev pub LengthDoes : {X : Type 0} → KfsState → Opens → Result (ℕ × ℕ) Errno → ℕ → Result X CoreFault → KfsState → Opens → Type 0

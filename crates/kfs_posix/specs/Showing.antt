@@ -8,7 +8,7 @@ use Rattle.kv_device.specs.Objects.{Objects}
 use Rattle.kfs_model.specs.Tree.{Tree, Limits, charge, chunks, has_room, named, IsTree, IsKept}
 use Rattle.kfs_model.specs.Life.{State, Live, Now, Up, Down, Past, tree_at, Event, AnyOf}
 use Rattle.kfs_shows.specs.Shows.{Shows}
-use Rattle.kfs_tx.specs.Run.{seen}
+use Rattle.kfs_tx.specs.Tx.{seen}
 use Rattle.kfs_core.specs.Bounds.{IsLight}
 use Rattle.kfs_posix.specs.Book.{Book, limits_of}
 use Rattle.kfs_posix.specs.Opens.{desk_of}
@@ -40,19 +40,19 @@ pub record ShowsLive (b : Book) (live : Live) : Type 0 where
   pub tree : IsTree live.world.tree
   pub low : live.world.tree.next < 2 ^ 63
   pub few_changes : live.past.count < 2 ^ 63
-  pub sees : Shows (seen b.run) live.world.tree live.past.count
-  pub saved : IsWhole (limits_of b) b.run.machine.stable (tree_at live.past live.mark) live.mark
+  pub sees : Shows (seen b.tx) live.world.tree live.past.count
+  pub saved : IsWhole (limits_of b) b.tx.machine.stable (tree_at live.past live.mark) live.mark
   pub newest : tree_at live.past live.past.count ≡ live.world.tree
   pub behind : live.mark ≤ live.past.count
   pub desk : live.world.desk ≡ desk_of b.files
   pub holds : Holds b.files live.world.tree
-  pub count : b.run.changes ≡ live.past.count
-  pub next : b.run.next ≡ live.world.tree.next
-  pub changes : b.run.since ≡ live.since.changes
-  pub weight : b.run.weight ≡ live.since.weight
-  pub light : IsLight b.run
-  pub keys : b.keys ≡ b.run.machine.room_keys
-  pub pages : b.pages ≡ b.run.machine.room_pages
+  pub count : b.tx.changes ≡ live.past.count
+  pub next : b.tx.next ≡ live.world.tree.next
+  pub changes : b.tx.since ≡ live.since.changes
+  pub weight : b.tx.weight ≡ live.since.weight
+  pub light : IsLight b.tx
+  pub keys : b.keys ≡ b.tx.machine.room_keys
+  pub pages : b.pages ≡ b.tx.machine.room_pages
   pub charged : b.charge ≡ charge live.world.tree
   pub chunked : b.chunks ≡ chunks live.world.tree
   pub room : has_room (limits_of b) live.world.tree ≡ true
@@ -63,9 +63,9 @@ pub record ShowsDown (b : Book) (past : Past) (may : List ℕ) : Type 0 where
   pub down : b.down ≡ Some cause
   pub stands : ℕ
   pub may_be : AnyOf may stands
-  pub saved : IsWhole (limits_of b) b.run.machine.stable (tree_at past stands) stands
-  pub keys : b.keys ≡ b.run.machine.room_keys
-  pub pages : b.pages ≡ b.run.machine.room_pages
+  pub saved : IsWhole (limits_of b) b.tx.machine.stable (tree_at past stands) stands
+  pub keys : b.keys ≡ b.tx.machine.room_keys
+  pub pages : b.pages ≡ b.tx.machine.room_pages
 
 abbrev pub ShowsNow : Book → Now → Type 0
 ShowsNow b (Up live) = ShowsLive b live
@@ -81,18 +81,18 @@ one_if armed = if armed then 1 else 0
 -- a cut is planned exactly where the life has one armed, and a fault at most there
 pub record ShowsState (b : Book) (s : State) : Type 0 where
   pub now : ShowsNow b s.now
-  pub cuts : b.run.machine.most_cuts ≡ b.run.machine.cuts + one_if s.cut_armed
-  pub faults : b.run.machine.most_faults ≤ b.run.machine.faults + one_if s.fail_armed
-  pub most_cuts : b.run.machine.cuts ≤ b.run.machine.most_cuts
-  pub most_faults : b.run.machine.faults ≤ b.run.machine.most_faults
-  pub few_cuts : b.run.machine.most_cuts < 2 ^ 63
-  pub few_faults : b.run.machine.most_faults < 2 ^ 63
+  pub cuts : b.tx.machine.most_cuts ≡ b.tx.machine.cuts + one_if s.cut_armed
+  pub faults : b.tx.machine.most_faults ≤ b.tx.machine.faults + one_if s.fail_armed
+  pub most_cuts : b.tx.machine.cuts ≤ b.tx.machine.most_cuts
+  pub most_faults : b.tx.machine.faults ≤ b.tx.machine.most_faults
+  pub few_cuts : b.tx.machine.most_cuts < 2 ^ 63
+  pub few_faults : b.tx.machine.most_faults < 2 ^ 63
 
 -- the state is shown, and a cut or a fault is armed wherever that count may rise
 pub record Fits (b : Book) (s : State) : Type 0 where
   pub now : ShowsNow b s.now
-  pub cuts : one_more b.run.machine.cuts ≤ b.run.machine.most_cuts → s.cut_armed ≡ true
-  pub faults : one_more b.run.machine.faults ≤ b.run.machine.most_faults → s.fail_armed ≡ true
+  pub cuts : one_more b.tx.machine.cuts ≤ b.tx.machine.most_cuts → s.cut_armed ≡ true
+  pub faults : one_more b.tx.machine.faults ≤ b.tx.machine.most_faults → s.fail_armed ≡ true
 
 -- the line and its answer lead from each state that fits old to one that new shows; where exactly what is planned
 -- was armed, so it is then

@@ -21,5 +21,5 @@ pub record IsUnplanned (m : Machine) : Type 0 where
 abbrev pub CallsFailUnplannedByMemoryAlone : Type 0
 CallsFailUnplannedByMemoryAlone =
     (old new : Book) (call : Call) (reply : Reply)
-    → GoesOn old (lines.Call call) (answers.Reply reply) new → Counts old.run.machine reply new.run.machine → IsUnplanned old.run.machine
+    → GoesOn old (lines.Call call) (answers.Reply reply) new → Counts old.tx.machine reply new.tx.machine → IsUnplanned old.tx.machine
     → (s : State) → ShowsState old s → PlainAnswer (limits_of old) s.now (lines.Call call) (answers.Reply reply)

@@ -1,6 +1,6 @@
 // The calls by descriptors.
 ghost use Rattle.std.specs.Prelude.{◌≡◌, ◌≤◌, ◌<◌, ◌+◌, ◌-◌, ◌^◌};
-ghost use Rattle.kfs_tx.specs.Run.{age_of, Aged};
+ghost use Rattle.kfs_tx.specs.Tx.{age_of, Aged};
 ghost use Rattle.kfs_posix.specs.Answering.{Counts, KeepsCause};
 
 use crate::closing::close;
@@ -25,7 +25,7 @@ impl<D: Device> Session<D> {
     pub fn close(&mut self, alloc: Global, fd: u32) -> Reply
         requires { age_of (running_in self.old) < 2 ^ 63 - 2 ^ 40 }
         ensures goes_on { GoesOn self.old.book (lines.Call (calls.Close fd)) (answers.Reply result) self.new.book }
-        ensures counts { Counts self.old.book.run.machine result self.new.book.run.machine }
+        ensures counts { Counts self.old.book.tx.machine result self.new.book.tx.machine }
         ensures room { limits_of self.new.book ≡ limits_of self.old.book }
         ensures down { KeepsCause self.old.book result self.new.book }
         ensures age { Aged (running_in self.old) (running_in self.new) (2 ^ 38) }
@@ -42,7 +42,7 @@ impl<D: Device> Session<D> {
     /// Shares a descriptor's description with the lowest free descriptor. It takes no memory.
     pub fn dup(&mut self, fd: u32) -> Reply
         ensures goes_on { GoesOn self.old.book (lines.Call (calls.Dup fd)) (answers.Reply result) self.new.book }
-        ensures counts { Counts self.old.book.run.machine result self.new.book.run.machine }
+        ensures counts { Counts self.old.book.tx.machine result self.new.book.tx.machine }
         ensures room { limits_of self.new.book ≡ limits_of self.old.book }
         ensures down { KeepsCause self.old.book result self.new.book }
         ensures age { Aged (running_in self.old) (running_in self.new) (2 ^ 38) }
@@ -56,7 +56,7 @@ impl<D: Device> Session<D> {
     /// Moves a descriptor's offset, and answers it. It takes no memory.
     pub fn lseek(&mut self, fd: u32, whence: Whence, offset: i64) -> Reply
         ensures goes_on { GoesOn self.old.book (lines.Call (calls.Lseek fd whence offset)) (answers.Reply result) self.new.book }
-        ensures counts { Counts self.old.book.run.machine result self.new.book.run.machine }
+        ensures counts { Counts self.old.book.tx.machine result self.new.book.tx.machine }
         ensures room { limits_of self.new.book ≡ limits_of self.old.book }
         ensures down { KeepsCause self.old.book result self.new.book }
         ensures age { Aged (running_in self.old) (running_in self.new) (2 ^ 38) }
@@ -70,7 +70,7 @@ impl<D: Device> Session<D> {
     /// What a descriptor has open.
     pub fn fstat(&mut self, _alloc: Global, fd: u32) -> Reply
         ensures goes_on { GoesOn self.old.book (lines.Call (calls.Fstat fd)) (answers.Reply result) self.new.book }
-        ensures counts { Counts self.old.book.run.machine result self.new.book.run.machine }
+        ensures counts { Counts self.old.book.tx.machine result self.new.book.tx.machine }
         ensures room { limits_of self.new.book ≡ limits_of self.old.book }
         ensures down { KeepsCause self.old.book result self.new.book }
         ensures age { Aged (running_in self.old) (running_in self.new) (2 ^ 38) }
@@ -85,7 +85,7 @@ impl<D: Device> Session<D> {
     pub fn fsync(&mut self, alloc: Global, fd: u32) -> Reply
         requires { age_of (running_in self.old) < 2 ^ 63 - 2 ^ 40 }
         ensures goes_on { GoesOn self.old.book (lines.Call (calls.Fsync fd)) (answers.Reply result) self.new.book }
-        ensures counts { Counts self.old.book.run.machine result self.new.book.run.machine }
+        ensures counts { Counts self.old.book.tx.machine result self.new.book.tx.machine }
         ensures room { limits_of self.new.book ≡ limits_of self.old.book }
         ensures down { KeepsCause self.old.book result self.new.book }
         ensures age { Aged (running_in self.old) (running_in self.new) (2 ^ 38) }
@@ -106,7 +106,7 @@ impl<D: Device> Session<D> {
     pub fn read(&mut self, alloc: Global, fd: u32, count: u32) -> Reply
         requires { age_of (running_in self.old) < 2 ^ 63 - 2 ^ 40 }
         ensures goes_on { GoesOn self.old.book (lines.Call (calls.Read fd count)) (answers.Reply result) self.new.book }
-        ensures counts { Counts self.old.book.run.machine result self.new.book.run.machine }
+        ensures counts { Counts self.old.book.tx.machine result self.new.book.tx.machine }
         ensures room { limits_of self.new.book ≡ limits_of self.old.book }
         ensures down { KeepsCause self.old.book result self.new.book }
         ensures age { Aged (running_in self.old) (running_in self.new) (2 ^ 38) }
@@ -124,7 +124,7 @@ impl<D: Device> Session<D> {
     pub fn pread(&mut self, alloc: Global, fd: u32, count: u32, offset: i64) -> Reply
         requires { age_of (running_in self.old) < 2 ^ 63 - 2 ^ 40 }
         ensures goes_on { GoesOn self.old.book (lines.Call (calls.Pread fd count offset)) (answers.Reply result) self.new.book }
-        ensures counts { Counts self.old.book.run.machine result self.new.book.run.machine }
+        ensures counts { Counts self.old.book.tx.machine result self.new.book.tx.machine }
         ensures room { limits_of self.new.book ≡ limits_of self.old.book }
         ensures down { KeepsCause self.old.book result self.new.book }
         ensures age { Aged (running_in self.old) (running_in self.new) (2 ^ 38) }
@@ -142,7 +142,7 @@ impl<D: Device> Session<D> {
     pub fn write(&mut self, alloc: Global, fd: u32, bytes: &[u8]) -> Reply
         requires { age_of (running_in self.old) < 2 ^ 63 - 2 ^ 40 }
         ensures goes_on { GoesOn self.old.book (lines.Call (calls.Write fd (payload.Plain bytes.now))) (answers.Reply result) self.new.book }
-        ensures counts { Counts self.old.book.run.machine result self.new.book.run.machine }
+        ensures counts { Counts self.old.book.tx.machine result self.new.book.tx.machine }
         ensures room { limits_of self.new.book ≡ limits_of self.old.book }
         ensures down { KeepsCause self.old.book result self.new.book }
         ensures age { Aged (running_in self.old) (running_in self.new) (2 ^ 38) }
@@ -160,7 +160,7 @@ impl<D: Device> Session<D> {
     pub fn pwrite(&mut self, alloc: Global, fd: u32, bytes: &[u8], offset: i64) -> Reply
         requires { age_of (running_in self.old) < 2 ^ 63 - 2 ^ 40 }
         ensures goes_on { GoesOn self.old.book (lines.Call (calls.Pwrite fd (payload.Plain bytes.now) offset)) (answers.Reply result) self.new.book }
-        ensures counts { Counts self.old.book.run.machine result self.new.book.run.machine }
+        ensures counts { Counts self.old.book.tx.machine result self.new.book.tx.machine }
         ensures room { limits_of self.new.book ≡ limits_of self.old.book }
         ensures down { KeepsCause self.old.book result self.new.book }
         ensures age { Aged (running_in self.old) (running_in self.new) (2 ^ 38) }
@@ -179,7 +179,7 @@ impl<D: Device> Session<D> {
     pub fn ftruncate(&mut self, alloc: Global, fd: u32, length: i64) -> Reply
         requires { age_of (running_in self.old) < 2 ^ 63 - 2 ^ 40 }
         ensures goes_on { GoesOn self.old.book (lines.Call (calls.Ftruncate fd length)) (answers.Reply result) self.new.book }
-        ensures counts { Counts self.old.book.run.machine result self.new.book.run.machine }
+        ensures counts { Counts self.old.book.tx.machine result self.new.book.tx.machine }
         ensures room { limits_of self.new.book ≡ limits_of self.old.book }
         ensures down { KeepsCause self.old.book result self.new.book }
         ensures age { Aged (running_in self.old) (running_in self.new) (2 ^ 38) }
@@ -197,7 +197,7 @@ impl<D: Device> Session<D> {
     pub(crate) fn write_data(&mut self, alloc: Global, fd: u32, given: &Data) -> Reply
         requires { age_of (running_in self.old) < 2 ^ 63 - 2 ^ 40 }
         ensures goes_on { GoesOn self.old.book (lines.Call (calls.Write fd given.now)) (answers.Reply result) self.new.book }
-        ensures counts { Counts self.old.book.run.machine result self.new.book.run.machine }
+        ensures counts { Counts self.old.book.tx.machine result self.new.book.tx.machine }
         ensures room { limits_of self.new.book ≡ limits_of self.old.book }
         ensures down { KeepsCause self.old.book result self.new.book }
         ensures age { Aged (running_in self.old) (running_in self.new) (2 ^ 38) }
@@ -220,7 +220,7 @@ impl<D: Device> Session<D> {
     pub(crate) fn pwrite_data(&mut self, alloc: Global, fd: u32, given: &Data, offset: i64) -> Reply
         requires { age_of (running_in self.old) < 2 ^ 63 - 2 ^ 40 }
         ensures goes_on { GoesOn self.old.book (lines.Call (calls.Pwrite fd given.now offset)) (answers.Reply result) self.new.book }
-        ensures counts { Counts self.old.book.run.machine result self.new.book.run.machine }
+        ensures counts { Counts self.old.book.tx.machine result self.new.book.tx.machine }
         ensures room { limits_of self.new.book ≡ limits_of self.old.book }
         ensures down { KeepsCause self.old.book result self.new.book }
         ensures age { Aged (running_in self.old) (running_in self.new) (2 ^ 38) }

@@ -1,6 +1,6 @@
 // The calls that take names away.
 ghost use Rattle.std.specs.Prelude.{◌≡◌, ◌≤◌, ◌<◌, ◌+◌, ◌-◌, ◌^◌};
-ghost use Rattle.kfs_tx.specs.Run.{age_of, Aged};
+ghost use Rattle.kfs_tx.specs.Tx.{age_of, Aged};
 ghost use Rattle.kfs_posix.specs.Answering.{Counts, KeepsCause};
 
 use crate::removing::{rmdir, unlink};
@@ -21,7 +21,7 @@ impl<D: Device> Session<D> {
     pub fn unlink(&mut self, alloc: Global, path: &[u8]) -> Reply
         requires { age_of (running_in self.old) < 2 ^ 63 - 2 ^ 40 }
         ensures goes_on { GoesOn self.old.book (lines.Call (calls.Unlink path.now)) (answers.Reply result) self.new.book }
-        ensures counts { Counts self.old.book.run.machine result self.new.book.run.machine }
+        ensures counts { Counts self.old.book.tx.machine result self.new.book.tx.machine }
         ensures room { limits_of self.new.book ≡ limits_of self.old.book }
         ensures down { KeepsCause self.old.book result self.new.book }
         ensures age { Aged (running_in self.old) (running_in self.new) (2 ^ 38) }
@@ -39,7 +39,7 @@ impl<D: Device> Session<D> {
     pub fn rmdir(&mut self, alloc: Global, path: &[u8]) -> Reply
         requires { age_of (running_in self.old) < 2 ^ 63 - 2 ^ 40 }
         ensures goes_on { GoesOn self.old.book (lines.Call (calls.Rmdir path.now)) (answers.Reply result) self.new.book }
-        ensures counts { Counts self.old.book.run.machine result self.new.book.run.machine }
+        ensures counts { Counts self.old.book.tx.machine result self.new.book.tx.machine }
         ensures room { limits_of self.new.book ≡ limits_of self.old.book }
         ensures down { KeepsCause self.old.book result self.new.book }
         ensures age { Aged (running_in self.old) (running_in self.new) (2 ^ 38) }
@@ -57,7 +57,7 @@ impl<D: Device> Session<D> {
     pub fn rename(&mut self, alloc: Global, old: &[u8], new: &[u8]) -> Reply
         requires { age_of (running_in self.old) < 2 ^ 63 - 2 ^ 40 }
         ensures goes_on { GoesOn self.old.book (lines.Call (calls.Rename old.now new.now)) (answers.Reply result) self.new.book }
-        ensures counts { Counts self.old.book.run.machine result self.new.book.run.machine }
+        ensures counts { Counts self.old.book.tx.machine result self.new.book.tx.machine }
         ensures room { limits_of self.new.book ≡ limits_of self.old.book }
         ensures down { KeepsCause self.old.book result self.new.book }
         ensures age { Aged (running_in self.old) (running_in self.new) (2 ^ 38) }

@@ -1,6 +1,6 @@
 // The calls by paths.
 ghost use Rattle.std.specs.Prelude.{◌≡◌, ◌≤◌, ◌<◌, ◌+◌, ◌-◌, ◌^◌};
-ghost use Rattle.kfs_tx.specs.Run.{age_of, Aged};
+ghost use Rattle.kfs_tx.specs.Tx.{age_of, Aged};
 ghost use Rattle.kfs_posix.specs.Answering.{Counts, KeepsCause};
 
 use crate::opening::open;
@@ -22,7 +22,7 @@ impl<D: Device> Session<D> {
     pub fn mkdir(&mut self, alloc: Global, path: &[u8]) -> Reply
         requires { age_of (running_in self.old) < 2 ^ 63 - 2 ^ 40 }
         ensures goes_on { GoesOn self.old.book (lines.Call (calls.Mkdir path.now)) (answers.Reply result) self.new.book }
-        ensures counts { Counts self.old.book.run.machine result self.new.book.run.machine }
+        ensures counts { Counts self.old.book.tx.machine result self.new.book.tx.machine }
         ensures room { limits_of self.new.book ≡ limits_of self.old.book }
         ensures down { KeepsCause self.old.book result self.new.book }
         ensures age { Aged (running_in self.old) (running_in self.new) (2 ^ 38) }
@@ -40,7 +40,7 @@ impl<D: Device> Session<D> {
     pub fn stat(&mut self, alloc: Global, path: &[u8]) -> Reply
         requires { age_of (running_in self.old) < 2 ^ 63 - 2 ^ 40 }
         ensures goes_on { GoesOn self.old.book (lines.Call (calls.Stat path.now)) (answers.Reply result) self.new.book }
-        ensures counts { Counts self.old.book.run.machine result self.new.book.run.machine }
+        ensures counts { Counts self.old.book.tx.machine result self.new.book.tx.machine }
         ensures room { limits_of self.new.book ≡ limits_of self.old.book }
         ensures down { KeepsCause self.old.book result self.new.book }
         ensures age { Aged (running_in self.old) (running_in self.new) (2 ^ 38) }
@@ -67,7 +67,7 @@ impl<D: Device> Session<D> {
         requires room { self.old.book.keys ≤ 68544 }
         requires age { age_of (running_in self.old) < 2 ^ 63 - 2 ^ 40 }
         ensures goes_on { GoesOn self.old.book (lines.Call (calls.List path.now)) (answers.Reply result) self.new.book }
-        ensures counts { Counts self.old.book.run.machine result self.new.book.run.machine }
+        ensures counts { Counts self.old.book.tx.machine result self.new.book.tx.machine }
         ensures room { limits_of self.new.book ≡ limits_of self.old.book }
         ensures down { KeepsCause self.old.book result self.new.book }
         ensures age { Aged (running_in self.old) (running_in self.new) (2 ^ 38) }
@@ -85,7 +85,7 @@ impl<D: Device> Session<D> {
     pub fn open(&mut self, alloc: Global, path: &[u8], flags: Flags) -> Reply
         requires { age_of (running_in self.old) < 2 ^ 63 - 2 ^ 40 }
         ensures goes_on { GoesOn self.old.book (lines.Call (calls.Open path.now flags)) (answers.Reply result) self.new.book }
-        ensures counts { Counts self.old.book.run.machine result self.new.book.run.machine }
+        ensures counts { Counts self.old.book.tx.machine result self.new.book.tx.machine }
         ensures room { limits_of self.new.book ≡ limits_of self.old.book }
         ensures down { KeepsCause self.old.book result self.new.book }
         ensures age { Aged (running_in self.old) (running_in self.new) (2 ^ 38) }
@@ -105,7 +105,7 @@ impl<D: Device> Session<D> {
     pub fn truncate(&mut self, alloc: Global, path: &[u8], length: i64) -> Reply
         requires { age_of (running_in self.old) < 2 ^ 63 - 2 ^ 40 }
         ensures goes_on { GoesOn self.old.book (lines.Call (calls.Truncate path.now length)) (answers.Reply result) self.new.book }
-        ensures counts { Counts self.old.book.run.machine result self.new.book.run.machine }
+        ensures counts { Counts self.old.book.tx.machine result self.new.book.tx.machine }
         ensures room { limits_of self.new.book ≡ limits_of self.old.book }
         ensures down { KeepsCause self.old.book result self.new.book }
         ensures age { Aged (running_in self.old) (running_in self.new) (2 ^ 38) }

@@ -1,6 +1,6 @@
 // Closing descriptors.
 ghost use Rattle.std.specs.Prelude.{◌≡◌, ◌<◌, ◌-◌, ◌^◌};
-ghost use Rattle.kfs_tx.specs.Run.{age_of, Aged};
+ghost use Rattle.kfs_tx.specs.Tx.{age_of, Aged};
 ghost use Rattle.kfs_posix.specs.Closing.{CloseDoes};
 
 use crate::open_files::OpenFiles;

@@ -1,8 +1,8 @@
 // Opening what a path names.
 ghost use Rattle.std.specs.Prelude.{◌≡◌, ◌≤◌, ◌<◌, ◌-◌, ◌^◌, All, OnOk, IfOk, IfErr};
 ghost use Rattle.kfs_objects.specs.Keys.{IsNamed};
-ghost use Rattle.kfs_tx.specs.Run.{age_of, Aged, seen};
-ghost use Rattle.kfs_core.specs.Core.{run_in};
+ghost use Rattle.kfs_tx.specs.Tx.{age_of, Aged, seen};
+ghost use Rattle.kfs_core.specs.Core.{tx_in};
 ghost use Rattle.kfs_core.specs.Gives.{Gives, IsOwn};
 ghost use Rattle.kfs_core.specs.Room.{space_in};
 ghost use Rattle.kfs_core.specs.Spot.{route_of};
@@ -95,7 +95,7 @@ fn open_there<D: Device>(
     flags: Flags,
 ) -> Result<u32, CoreFault>
     requires age { age_of kfs.old.running < 2 ^ 63 - 2 ^ 39 }
-    ensures does { OpenDoes kfs.old files.old.opens flags (open_there_in (seen (run_in kfs.old)) (space_in kfs.old) files.old.opens node inode.kind inode.length trailing flags) result kfs.new files.new.opens }
+    ensures does { OpenDoes kfs.old files.old.opens flags (open_there_in (seen (tx_in kfs.old)) (space_in kfs.old) files.old.opens node inode.kind inode.length trailing flags) result kfs.new files.new.opens }
     ensures keys { kfs.new.keys ≡ kfs.old.keys }
     ensures pages { kfs.new.pages ≡ kfs.old.pages }
     ensures age { Aged kfs.old.running kfs.new.running (2 ^ 17) }
@@ -123,7 +123,7 @@ fn open_new<D: Device>(
 ) -> Result<u32, CoreFault>
     requires age { age_of kfs.old.running < 2 ^ 63 - 2 ^ 39 }
     requires named { All IsNamed path.now.pieces }
-    ensures does { OpenDoes kfs.old files.old.opens flags (open_new_in (seen (run_in kfs.old)) (space_in kfs.old) files.old.opens (route_of path.now) flags) result kfs.new files.new.opens }
+    ensures does { OpenDoes kfs.old files.old.opens flags (open_new_in (seen (tx_in kfs.old)) (space_in kfs.old) files.old.opens (route_of path.now) flags) result kfs.new files.new.opens }
     ensures keys { kfs.new.keys ≡ kfs.old.keys }
     ensures pages { kfs.new.pages ≡ kfs.old.pages }
     ensures age { Aged kfs.old.running kfs.new.running (2 ^ 17) }
@@ -150,7 +150,7 @@ fn open_at<D: Device>(
 ) -> Result<u32, CoreFault>
     requires age { age_of kfs.old.running < 2 ^ 63 - 2 ^ 39 }
     requires named { All IsNamed path.now.pieces }
-    ensures does { OpenDoes kfs.old files.old.opens flags (open_at_in (seen (run_in kfs.old)) (space_in kfs.old) files.old.opens (route_of path.now) flags) result kfs.new files.new.opens }
+    ensures does { OpenDoes kfs.old files.old.opens flags (open_at_in (seen (tx_in kfs.old)) (space_in kfs.old) files.old.opens (route_of path.now) flags) result kfs.new files.new.opens }
     ensures keys { kfs.new.keys ≡ kfs.old.keys }
     ensures pages { kfs.new.pages ≡ kfs.old.pages }
     ensures age { Aged kfs.old.running kfs.new.running (2 ^ 17) }
@@ -170,7 +170,7 @@ pub fn open<D: Device>(
     flags: Flags,
 ) -> Result<u32, CoreFault>
     requires age { age_of kfs.old.running < 2 ^ 63 - 2 ^ 39 }
-    ensures does { OpenDoes kfs.old files.old.opens flags (open_in (seen (run_in kfs.old)) (space_in kfs.old) files.old.opens path.now flags) result kfs.new files.new.opens }
+    ensures does { OpenDoes kfs.old files.old.opens flags (open_in (seen (tx_in kfs.old)) (space_in kfs.old) files.old.opens path.now flags) result kfs.new files.new.opens }
     ensures keys { kfs.new.keys ≡ kfs.old.keys }
     ensures pages { kfs.new.pages ≡ kfs.old.pages }
     ensures age { Aged kfs.old.running kfs.new.running (2 ^ 17) }

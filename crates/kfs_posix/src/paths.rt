@@ -2,8 +2,8 @@
 ghost use Rattle.std.specs.Prelude.{◌≡◌, ◌<◌, ◌+◌, ◌-◌, ◌^◌, All, OnOk, IfOk, IfErr};
 ghost use Rattle.kfs_model.specs.Step.{syntax};
 ghost use Rattle.kfs_objects.specs.Keys.{IsNamed};
-ghost use Rattle.kfs_tx.specs.Run.{age_of, Aged, seen};
-ghost use Rattle.kfs_core.specs.Core.{run_in, Stays};
+ghost use Rattle.kfs_tx.specs.Tx.{age_of, Aged, seen};
+ghost use Rattle.kfs_core.specs.Core.{tx_in, Stays};
 ghost use Rattle.kfs_core.specs.Flat.{place_in};
 ghost use Rattle.kfs_core.specs.Gives.{Gives, IsOwn, Leaves};
 ghost use Rattle.kfs_core.specs.Making.{MkdirDoes};
@@ -35,8 +35,8 @@ pub fn found<D: Device>(
     path: &[u8],
 ) -> Result<(u64, Inode), CoreFault>
     requires { age_of kfs.old.running < 2 ^ 63 - 2 ^ 39 }
-    ensures gives { Gives (λ it. (it.0, it.1.kind, it.1.length)) result (found_by (seen (run_in kfs.old)) path.now) }
-    ensures leaves { Leaves (run_in kfs.old) result (run_in kfs.new) }
+    ensures gives { Gives (λ it. (it.0, it.1.kind, it.1.length)) result (found_by (seen (tx_in kfs.old)) path.now) }
+    ensures leaves { Leaves (tx_in kfs.old) result (tx_in kfs.new) }
     ensures rest { Stays kfs.old kfs.new }
     ensures age { Aged kfs.old.running kfs.new.running 0 }
 {
@@ -49,8 +49,8 @@ pub fn found<D: Device>(
 /// The names in the directory that a path names.
 pub fn names<D: Device>(alloc: Global, kfs: &mut Kfs<D>, path: &[u8]) -> Result<Names, CoreFault>
     requires { age_of kfs.old.running < 2 ^ 63 - 2 ^ 39 }
-    ensures gives { Gives (λ names. names) result (names_by (seen (run_in kfs.old)) path.now) }
-    ensures leaves { Leaves (run_in kfs.old) result (run_in kfs.new) }
+    ensures gives { Gives (λ names. names) result (names_by (seen (tx_in kfs.old)) path.now) }
+    ensures leaves { Leaves (tx_in kfs.old) result (tx_in kfs.new) }
     ensures rest { Stays kfs.old kfs.new }
     ensures age { Aged kfs.old.running kfs.new.running 0 }
 {
@@ -62,7 +62,7 @@ pub fn names<D: Device>(alloc: Global, kfs: &mut Kfs<D>, path: &[u8]) -> Result<
 /// Makes the directory that a path names.
 pub fn make<D: Device>(alloc: Global, kfs: &mut Kfs<D>, path: &[u8]) -> Result<(), CoreFault>
     requires { age_of kfs.old.running < 2 ^ 63 - 2 ^ 39 }
-    ensures does { MkdirDoes (run_in kfs.old) (place_in (seen (run_in kfs.old)) kfs.old.keys kfs.old.charge path.now) result (run_in kfs.new) }
+    ensures does { MkdirDoes (tx_in kfs.old) (place_in (seen (tx_in kfs.old)) kfs.old.keys kfs.old.charge path.now) result (tx_in kfs.new) }
     ensures charge { OnOk result (kfs.new.charge ≡ kfs.old.charge + 2) }
     ensures same_charge { IfErr result (λ _. kfs.new.charge ≡ kfs.old.charge) }
     ensures chunks { kfs.new.chunks ≡ kfs.old.chunks }

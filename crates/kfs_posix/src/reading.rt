@@ -1,8 +1,8 @@
 // Reading from a descriptor.
 ghost use Rattle.std.specs.Prelude.{◌≡◌, ◌<◌, ◌-◌, ◌^◌};
 ghost use Rattle.kfs_model.specs.Step.{natural};
-ghost use Rattle.kfs_tx.specs.Run.{age_of, Aged, seen};
-ghost use Rattle.kfs_core.specs.Core.{run_in, Stays};
+ghost use Rattle.kfs_tx.specs.Tx.{age_of, Aged, seen};
+ghost use Rattle.kfs_core.specs.Core.{tx_in, Stays};
 ghost use Rattle.kfs_core.specs.Gives.{Leaves};
 ghost use Rattle.kfs_posix.specs.Reading.{readable_in, readable_at, ReadDoes, PreadDoes};
 
@@ -60,8 +60,8 @@ pub fn read<D: Device>(
     count: u32,
 ) -> Result<Text, CoreFault>
     requires { age_of kfs.old.running < 2 ^ 63 - 2 ^ 39 }
-    ensures does { ReadDoes (seen (run_in kfs.old)) files.old.opens (readable_in files.old.opens fd count) count result files.new.opens }
-    ensures leaves { Leaves (run_in kfs.old) result (run_in kfs.new) }
+    ensures does { ReadDoes (seen (tx_in kfs.old)) files.old.opens (readable_in files.old.opens fd count) count result files.new.opens }
+    ensures leaves { Leaves (tx_in kfs.old) result (tx_in kfs.new) }
     ensures rest { Stays kfs.old kfs.new }
     ensures age { Aged kfs.old.running kfs.new.running 0 }
 {
@@ -86,8 +86,8 @@ pub fn pread<D: Device>(
     offset: i64,
 ) -> Result<Text, CoreFault>
     requires { age_of kfs.old.running < 2 ^ 63 - 2 ^ 39 }
-    ensures does { PreadDoes (seen (run_in kfs.old)) (readable_at files.now.opens fd count offset) (natural offset) count result }
-    ensures leaves { Leaves (run_in kfs.old) result (run_in kfs.new) }
+    ensures does { PreadDoes (seen (tx_in kfs.old)) (readable_at files.now.opens fd count offset) (natural offset) count result }
+    ensures leaves { Leaves (tx_in kfs.old) result (tx_in kfs.new) }
     ensures rest { Stays kfs.old kfs.new }
     ensures age { Aged kfs.old.running kfs.new.running 0 }
 {

@@ -1,7 +1,7 @@
 // Taking names away.
 ghost use Rattle.std.specs.Prelude.{◌≡◌, ◌<◌, ◌-◌, ◌^◌};
-ghost use Rattle.kfs_tx.specs.Run.{age_of, Aged, seen};
-ghost use Rattle.kfs_core.specs.Core.{run_in};
+ghost use Rattle.kfs_tx.specs.Tx.{age_of, Aged, seen};
+ghost use Rattle.kfs_core.specs.Core.{tx_in};
 ghost use Rattle.kfs_posix.specs.Removing.{unlink_by, rmdir_by, UnnameDoes};
 
 use crate::open_files::OpenFiles;
@@ -18,7 +18,7 @@ pub fn unlink<D: Device>(
     path: &[u8],
 ) -> Result<(), CoreFault>
     requires { age_of kfs.old.running < 2 ^ 63 - 2 ^ 39 }
-    ensures does { UnnameDoes kfs.old files.old.opens (unlink_by (seen (run_in kfs.old)) path.now) result kfs.new files.new.opens }
+    ensures does { UnnameDoes kfs.old files.old.opens (unlink_by (seen (tx_in kfs.old)) path.now) result kfs.new files.new.opens }
     ensures age { Aged kfs.old.running kfs.new.running (2 ^ 16) }
 {
     let path = syntax(alloc, path)?;
@@ -36,7 +36,7 @@ pub fn rmdir<D: Device>(
     path: &[u8],
 ) -> Result<(), CoreFault>
     requires { age_of kfs.old.running < 2 ^ 63 - 2 ^ 39 }
-    ensures does { UnnameDoes kfs.old files.old.opens (rmdir_by (seen (run_in kfs.old)) path.now) result kfs.new files.new.opens }
+    ensures does { UnnameDoes kfs.old files.old.opens (rmdir_by (seen (tx_in kfs.old)) path.now) result kfs.new files.new.opens }
     ensures age { Aged kfs.old.running kfs.new.running (2 ^ 16) }
 {
     let path = syntax(alloc, path)?;

@@ -1,7 +1,7 @@
 // Moving a place to another.
 ghost use Rattle.std.specs.Prelude.{◌≡◌, ◌<◌, ◌-◌, ◌^◌};
-ghost use Rattle.kfs_tx.specs.Run.{age_of, Aged, seen};
-ghost use Rattle.kfs_core.specs.Core.{run_in};
+ghost use Rattle.kfs_tx.specs.Tx.{age_of, Aged, seen};
+ghost use Rattle.kfs_core.specs.Core.{tx_in};
 ghost use Rattle.kfs_posix.specs.Renaming.{rename_by, without_replaced, RenameDone};
 
 use crate::open_files::OpenFiles;
@@ -19,7 +19,7 @@ pub fn rename<D: Device>(
     new: &[u8],
 ) -> Result<(), CoreFault>
     requires { age_of kfs.old.running < 2 ^ 63 - 2 ^ 39 }
-    ensures does { RenameDone kfs.old files.old.opens (rename_by (seen (run_in kfs.old)) old.now new.now) result kfs.new files.new.opens }
+    ensures does { RenameDone kfs.old files.old.opens (rename_by (seen (tx_in kfs.old)) old.now new.now) result kfs.new files.new.opens }
     ensures age { Aged kfs.old.running kfs.new.running (2 ^ 16) }
 {
     let from = syntax(alloc, old)?;

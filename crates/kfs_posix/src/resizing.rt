@@ -2,8 +2,8 @@
 ghost use Rattle.std.specs.Prelude.{◌≡◌, ◌<◌, ◌-◌, ◌^◌, All};
 ghost use Rattle.kfs_objects.specs.Keys.{IsNamed};
 ghost use Rattle.kfs_model.specs.Step.{natural};
-ghost use Rattle.kfs_tx.specs.Run.{age_of, Aged, seen};
-ghost use Rattle.kfs_core.specs.Core.{run_in, Stays};
+ghost use Rattle.kfs_tx.specs.Tx.{age_of, Aged, seen};
+ghost use Rattle.kfs_core.specs.Core.{tx_in, Stays};
 ghost use Rattle.kfs_core.specs.Gives.{Gives, Leaves};
 ghost use Rattle.kfs_core.specs.Room.{space_in};
 ghost use Rattle.kfs_core.specs.Spot.{route_of};
@@ -27,7 +27,7 @@ fn resize<D: Device>(
     length: u64,
 ) -> Result<(), CoreFault>
     requires { age_of kfs.old.running < 2 ^ 63 - 2 ^ 39 }
-    ensures does { LengthDoes kfs.old files.old.opens (resize_node (seen (run_in kfs.old)) (space_in kfs.old) node length) length result kfs.new files.new.opens }
+    ensures does { LengthDoes kfs.old files.old.opens (resize_node (seen (tx_in kfs.old)) (space_in kfs.old) node length) length result kfs.new files.new.opens }
     ensures age { Aged kfs.old.running kfs.new.running (2 ^ 17) }
 {
     kfs.set_length(alloc, node, length)?;
@@ -45,7 +45,7 @@ pub fn ftruncate<D: Device>(
     length: i64,
 ) -> Result<(), CoreFault>
     requires { age_of kfs.old.running < 2 ^ 63 - 2 ^ 39 }
-    ensures does { LengthDoes kfs.old files.old.opens (ftruncate_in (seen (run_in kfs.old)) (space_in kfs.old) files.old.opens fd length) (natural length) result kfs.new files.new.opens }
+    ensures does { LengthDoes kfs.old files.old.opens (ftruncate_in (seen (tx_in kfs.old)) (space_in kfs.old) files.old.opens fd length) (natural length) result kfs.new files.new.opens }
     ensures age { Aged kfs.old.running kfs.new.running (2 ^ 17) }
 {
     match writable_at(files, fd, length) {
@@ -58,8 +58,8 @@ pub fn ftruncate<D: Device>(
 fn named_file<D: Device>(alloc: Global, kfs: &mut Kfs<D>, path: &Path) -> Result<u64, CoreFault>
     requires age { age_of kfs.old.running < 2 ^ 63 - 2 ^ 39 }
     requires named { All IsNamed path.now.pieces }
-    ensures gives { Gives (λ n. n) result (named_file_in (seen (run_in kfs.old)) (route_of path.now)) }
-    ensures leaves { Leaves (run_in kfs.old) result (run_in kfs.new) }
+    ensures gives { Gives (λ n. n) result (named_file_in (seen (tx_in kfs.old)) (route_of path.now)) }
+    ensures leaves { Leaves (tx_in kfs.old) result (tx_in kfs.new) }
     ensures rest { Stays kfs.old kfs.new }
     ensures age { Aged kfs.old.running kfs.new.running 0 }
 {
@@ -84,7 +84,7 @@ pub fn truncate<D: Device>(
     length: i64,
 ) -> Result<(), CoreFault>
     requires { age_of kfs.old.running < 2 ^ 63 - 2 ^ 39 }
-    ensures does { LengthDoes kfs.old files.old.opens (truncate_by (seen (run_in kfs.old)) (space_in kfs.old) path.now length) (natural length) result kfs.new files.new.opens }
+    ensures does { LengthDoes kfs.old files.old.opens (truncate_by (seen (tx_in kfs.old)) (space_in kfs.old) path.now length) (natural length) result kfs.new files.new.opens }
     ensures age { Aged kfs.old.running kfs.new.running (2 ^ 17) }
 {
     if length < 0 {

@@ -3,7 +3,7 @@ ghost use Rattle.std.specs.Prelude.{◌≡◌, ◌≤◌, ◌<◌, ◌+◌, ◌-
 ghost use Rattle.kv_base.specs.Counts.{one_more};
 ghost use Rattle.kv_device.specs.Machine.{none_open, begun};
 ghost use Rattle.kv_device.specs.Calls.{Ages};
-ghost use Rattle.kfs_tx.specs.Run.{age_of, Aged};
+ghost use Rattle.kfs_tx.specs.Tx.{age_of, Aged};
 ghost use Rattle.kfs_core.specs.Starting.{IsOutside, NotMounted};
 ghost use Rattle.kfs_posix.specs.Answering.{Asks, Counts, IsAnswerable, KeepsCause, refusal, down_after};
 ghost use Rattle.kfs_posix.specs.Book.{cause_of};
@@ -85,12 +85,12 @@ impl<D: Device> Session<D> {
         requires room { (D.machine device).room_keys ≤ 68544 }
         ensures ok { IfOk result (λ s. Mounts (D.machine device) s.book) }
         ensures clear { OnOk result (IsClear (room_in (D.machine device)) (heard (D.machine device).stable)) }
-        ensures begun { IfOk result (λ s. s.book.run.machine ≡ begun (record (D.machine device) { stable = s.book.run.machine.stable }) 0) }
+        ensures begun { IfOk result (λ s. s.book.tx.machine ≡ begun (record (D.machine device) { stable = s.book.tx.machine.stable }) 0) }
         ensures up { IfOk result (λ s. s.book.down ≡ None) }
         ensures shows { IfOk result (λ s. IsShowing s.book) }
         ensures keys { IfOk result (λ s. s.book.keys ≡ (D.machine device).room_keys) }
-        ensures changes { IfOk result (λ s. s.book.run.changes < 2 ^ 62) }
-        ensures next { IfOk result (λ s. s.book.run.next < 2 ^ 62) }
+        ensures changes { IfOk result (λ s. s.book.tx.changes < 2 ^ 62) }
+        ensures next { IfOk result (λ s. s.book.tx.next < 2 ^ 62) }
         ensures err { IfErr result (λ e. NotMounted (D.machine device) e.1 (D.machine e.0)) }
         ensures kept { IfErr result (λ e. Keeps (D.machine device).stable (D.machine e.0).stable) }
         ensures age { IfOk result (λ s. Ages (D.age device) s.device_age (2 ^ 38)) }
@@ -110,7 +110,7 @@ impl<D: Device> Session<D> {
     pub fn sync(&mut self, alloc: Global) -> Reply
         requires { age_of (running_in self.old) < 2 ^ 63 - 2 ^ 40 }
         ensures goes_on { GoesOn self.old.book (lines.Call calls.Sync) (answers.Reply result) self.new.book }
-        ensures counts { Counts self.old.book.run.machine result self.new.book.run.machine }
+        ensures counts { Counts self.old.book.tx.machine result self.new.book.tx.machine }
         ensures room { limits_of self.new.book ≡ limits_of self.old.book }
         ensures down { KeepsCause self.old.book result self.new.book }
         ensures age { Aged (running_in self.old) (running_in self.new) (2 ^ 38) }
@@ -127,7 +127,7 @@ impl<D: Device> Session<D> {
     /// What the tree takes of the keys and the pages, and how many there are. It takes no memory.
     pub fn room(&self) -> Reply
         ensures goes_on { GoesOn self.now.book (lines.Call calls.Room) (answers.Reply result) self.now.book }
-        ensures counts { Counts self.now.book.run.machine result self.now.book.run.machine }
+        ensures counts { Counts self.now.book.tx.machine result self.now.book.tx.machine }
         ensures down { KeepsCause self.now.book result self.now.book }
     {
         if self.down.is_some() {
@@ -141,7 +141,7 @@ impl<D: Device> Session<D> {
         requires room { self.old.book.keys ≤ 68544 }
         requires age { age_of (running_in self.old) < 2 ^ 63 - 2 ^ 40 }
         ensures goes_on { GoesOn self.old.book (lines.Call call.now) (answers.Reply result) self.new.book }
-        ensures counts { Counts self.old.book.run.machine result self.new.book.run.machine }
+        ensures counts { Counts self.old.book.tx.machine result self.new.book.tx.machine }
         ensures room { limits_of self.new.book ≡ limits_of self.old.book }
         ensures down { KeepsCause self.old.book result self.new.book }
         ensures age { Aged (running_in self.old) (running_in self.new) (2 ^ 38) }
@@ -183,14 +183,14 @@ impl<D: Device> Session<D> {
 
     /// How many changes there were since the format, up to the one that the session is at.
     pub fn changes(&self) -> u64
-        ensures { result ≡ self.now.book.run.changes }
+        ensures { result ≡ self.now.book.tx.changes }
     {
         self.kfs.changes()
     }
 
     /// Gives the device back. What was changed since the last boundary is lost.
     pub fn into_device(self) -> D
-        ensures machine { D.machine result ≡ self.book.run.machine }
+        ensures machine { D.machine result ≡ self.book.tx.machine }
         ensures age { D.age result ≡ self.device_age }
         ensures asked { D.asked result ≡ self.asked }
     {
@@ -205,7 +205,7 @@ impl<D: PlannedDevice> Session<D> {
     ghost use Rattle.kfs_path.specs.declared.call.Reply.TheVariants as replies;
     ghost use Rattle.kfs_model.specs.declared.Line.TheVariants as lines;
     ghost use Rattle.kfs_model.specs.declared.Answer.TheVariants as answers;
-    ghost use Rattle.kfs_tx.specs.Run.{age_of};
+    ghost use Rattle.kfs_tx.specs.Tx.{age_of};
     ghost use Rattle.kfs_posix.specs.Book.{running_in, limits_of};
     ghost use Rattle.kfs_posix.specs.Showing.{GoesOn};
 
@@ -214,8 +214,8 @@ impl<D: PlannedDevice> Session<D> {
     pub fn plan_cut(&mut self, n: u32, how: u8)
         requires n { 1 ≤ n }
         requires how { how ≤ 3 }
-        ensures goes_on { self.old.book.run.machine.cuts + 1 < 2 ^ 63 → GoesOn self.old.book (lines.Cut n how) (answers.Reply replies.Done) self.new.book }
-        ensures planned { self.new.book.run.machine ≡ with_most_cuts self.old.book.run.machine }
+        ensures goes_on { self.old.book.tx.machine.cuts + 1 < 2 ^ 63 → GoesOn self.old.book (lines.Cut n how) (answers.Reply replies.Done) self.new.book }
+        ensures planned { self.new.book.tx.machine ≡ with_most_cuts self.old.book.tx.machine }
         ensures room { limits_of self.new.book ≡ limits_of self.old.book }
         ensures down { self.new.book.down ≡ self.old.book.down }
         ensures age { self.new.device_age ≡ self.old.device_age }
@@ -229,10 +229,10 @@ impl<D: PlannedDevice> Session<D> {
     pub fn plan_fail(&mut self, kind: u8, n: u32)
         requires n { 1 ≤ n }
         requires kind { kind ≤ 2 }
-        ensures goes_on { self.old.book.run.machine.faults + 1 < 2 ^ 63 → GoesOn self.old.book (lines.Fail kind n) (answers.Reply replies.Done) self.new.book }
-        ensures planned { self.new.book.run.machine ≡ with_most_faults self.old.book.run.machine self.new.book.run.machine.most_faults }
-        ensures fewest { self.old.book.run.machine.faults ≤ self.new.book.run.machine.most_faults }
-        ensures most { self.new.book.run.machine.most_faults ≤ one_more self.old.book.run.machine.faults }
+        ensures goes_on { self.old.book.tx.machine.faults + 1 < 2 ^ 63 → GoesOn self.old.book (lines.Fail kind n) (answers.Reply replies.Done) self.new.book }
+        ensures planned { self.new.book.tx.machine ≡ with_most_faults self.old.book.tx.machine self.new.book.tx.machine.most_faults }
+        ensures fewest { self.old.book.tx.machine.faults ≤ self.new.book.tx.machine.most_faults }
+        ensures most { self.new.book.tx.machine.most_faults ≤ one_more self.old.book.tx.machine.faults }
         ensures room { limits_of self.new.book ≡ limits_of self.old.book }
         ensures down { self.new.book.down ≡ self.old.book.down }
         ensures age { self.new.device_age ≡ self.old.device_age }

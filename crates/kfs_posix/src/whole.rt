@@ -1,6 +1,6 @@
 // The calls on the whole file system.
 ghost use Rattle.std.specs.Prelude.{◌≡◌, ◌≤◌, ◌<◌, ◌+◌, ◌-◌, ◌^◌};
-ghost use Rattle.kfs_tx.specs.Run.{age_of, Aged};
+ghost use Rattle.kfs_tx.specs.Tx.{age_of, Aged};
 ghost use Rattle.kfs_posix.specs.Answering.{AsksWork, Counts, KeepsCause};
 
 use crate::session::{Session, refuse};
@@ -21,7 +21,7 @@ impl<D: Device> Session<D> {
         requires room { self.old.book.keys ≤ 68544 }
         requires age { age_of (running_in self.old) < 2 ^ 63 - 2 ^ 40 }
         ensures goes_on { GoesOn self.old.book (lines.Call calls.Tree) (answers.Reply result) self.new.book }
-        ensures counts { Counts self.old.book.run.machine result self.new.book.run.machine }
+        ensures counts { Counts self.old.book.tx.machine result self.new.book.tx.machine }
         ensures room { limits_of self.new.book ≡ limits_of self.old.book }
         ensures down { KeepsCause self.old.book result self.new.book }
         ensures age { Aged (running_in self.old) (running_in self.new) (2 ^ 38) }
@@ -40,7 +40,7 @@ impl<D: Device> Session<D> {
         requires { age_of (running_in self.old) < 2 ^ 63 - 2 ^ 40 }
         ensures goes_on { GoesOn self.old.book (lines.Call (calls.Work operations)) (answers.Reply result) self.new.book }
         ensures asked { AsksWork operations result self.new.asked }
-        ensures counts { Counts self.old.book.run.machine result self.new.book.run.machine }
+        ensures counts { Counts self.old.book.tx.machine result self.new.book.tx.machine }
         ensures room { limits_of self.new.book ≡ limits_of self.old.book }
         ensures down { KeepsCause self.old.book result self.new.book }
         ensures age { Aged (running_in self.old) (running_in self.new) (2 ^ 38) }

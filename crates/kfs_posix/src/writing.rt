@@ -3,7 +3,7 @@ ghost use Rattle.std.specs.Prelude.{◌≡◌, ◌<◌, ◌-◌, ◌^◌, max, m
 ghost use Rattle.kv_device.specs.declared.fault.DeviceFault.TheVariants as faults;
 ghost use Rattle.kfs_core.specs.declared.fault.CoreFault.TheVariants as device;
 ghost use Rattle.kfs_model.specs.Step.{natural};
-ghost use Rattle.kfs_tx.specs.Run.{age_of, Aged};
+ghost use Rattle.kfs_tx.specs.Tx.{age_of, Aged};
 ghost use Rattle.kfs_posix.specs.Writing.{writable_in, writable_at, place_of, behind, PutDoes, PwriteDoes, FdWriteDoes};
 
 use crate::open_files::{OpenFile, OpenFiles};

@@ -65,7 +65,7 @@ complete words old new sink sink_new status (ending, comes, written) bytes block
 abbrev unarmed : State → State
 unarmed s = record { now = s.now; cut_armed = false; fail_armed = false }
 
-unarmed_session : (b : Book) (s : State) → IsUnplanned b.run.machine → ShowsState b s → ShowsState b (unarmed s)
+unarmed_session : (b : Book) (s : State) → IsUnplanned b.tx.machine → ShowsState b s → ShowsState b (unarmed s)
 unarmed_session b s none shows = record {
   now = shows.now;
   cuts = omega (arith, none.cuts);

@@ -20,7 +20,7 @@ use Rattle.kfs_model.specs.Life.{State, Live, Now, Up, Down, Past, tree_at, up_a
 use Rattle.kfs_shows.specs.Named.{AllNamed}
 use Rattle.kfs_shows.proofs.Fresh.{root_is_tree, first_shows}
 use Rattle.kfs_shows.proofs.AllNamed.{named_whole}
-use Rattle.kfs_tx.specs.Run.{SameBounds, age_of, Aged}
+use Rattle.kfs_tx.specs.Tx.{SameBounds, age_of, Aged}
 use Rattle.kfs_core.specs.declared.fault.HostFault.{HostFault}
 use Rattle.kfs_core.specs.declared.fault.HostFault.TheVariants.{Damaged, Cut, Eio, NoMem}
 use Rattle.kfs_core.specs.Clearing.{Keeps}
@@ -54,7 +54,7 @@ mounts_at l s (Down old may) past k n stands is =
     (subst P (sym is) stands.1, λ i. with_now s (Up (up_at (stands.0 i) (sym is i))))
 
 -- a session shows the state that it goes on from
-shows_up : (m : Machine) (now : Objects) (s : State) (b : Book) (live : Live) → AreArmed m s → ShowsLive b live → b.run.machine ≡ begun (record (restarted m) { stable = now }) 0 → ShowsState b (with_now s (Up live))
+shows_up : (m : Machine) (now : Objects) (s : State) (b : Book) (live : Live) → AreArmed m s → ShowsLive b live → b.tx.machine ≡ begun (record (restarted m) { stable = now }) 0 → ShowsState b (with_now s (Up live))
 shows_up m now s b live armed shows is =
     let Cuts : Machine → Type 0 = λ x. x.most_cuts ≡ x.cuts + one_if s.cut_armed in
     let Faults : Machine → Type 0 = λ x. x.most_faults ≤ x.faults + one_if s.fail_armed in
@@ -83,35 +83,35 @@ pub newest : (t : Tree) (k : ℕ) → tree_at (past_of t k) k ≡ t
 newest t k = let none : k - k ≡ 0 = omega arith in rw none refl
 
 -- where nothing is damaged, what is known goes on
-known_up : (seat : Seated) (m now : Machine) (book : Book) → Known seat → m ≡ restarted (seat_machine seat) → IsHeld m.stable → IsClear (room_in m) (heard m.stable) → Mounts m book → book.run.machine ≡ begun (record (restarted (seat_machine seat)) { stable = book.run.machine.stable }) 0 → (s : State) × ShowsState book s
+known_up : (seat : Seated) (m now : Machine) (book : Book) → Known seat → m ≡ restarted (seat_machine seat) → IsHeld m.stable → IsClear (room_in m) (heard m.stable) → Mounts m book → book.tx.machine ≡ begun (record (restarted (seat_machine seat)) { stable = book.tx.machine.stable }) 0 → (s : State) × ShowsState book s
 known_up seat m now book known up held clear mounts begins =
     let found = clear_stored m held clear in
     let past = past_of found.0 found.1 in
     let T : Tree → Type 0 = λ t. IsSaved (limits_in m) m.stable t found.1 in
     let got = mounts.each past found.1 (subst T (sym (newest found.0 found.1)) found.2) in
     let armed = known_armed seat known in
-    (with_now armed.0 (Up (up_at past found.1)), shows_up (seat_machine seat) book.run.machine.stable armed.0 book (up_at past found.1) armed.1 got.1 begins)
+    (with_now armed.0 (Up (up_at past found.1)), shows_up (seat_machine seat) book.tx.machine.stable armed.0 book (up_at past found.1) armed.1 got.1 begins)
 
 -- a mount goes on from what the device stores
-pub mount_goes : (seat : Seated) (m : Machine) (new : SessionState) (n device : ℕ) → Known seat → m ≡ restarted (seat_machine seat) → IsHeld m.stable → IsClear (room_in m) (heard m.stable) → Mounts m new.book → new.book.run.machine ≡ begun (record m { stable = new.book.run.machine.stable }) 0 → new.book.run.changes < 2 ^ 62 → new.book.run.next < 2 ^ 62 → device ≤ device_age seat + 2 ^ 20 → device ≤ 2 ^ 62 + 2 ^ 21 → Ages device new.device_age (2 ^ 38) → n ≡ new.book.run.changes → ((damage : Damage) → damaged_in (seat_rested seat) damage → ⊥) → SeatGoes seat lines.Mount (answers.Mounted n) (Mounted new)
+pub mount_goes : (seat : Seated) (m : Machine) (new : SessionState) (n device : ℕ) → Known seat → m ≡ restarted (seat_machine seat) → IsHeld m.stable → IsClear (room_in m) (heard m.stable) → Mounts m new.book → new.book.tx.machine ≡ begun (record m { stable = new.book.tx.machine.stable }) 0 → new.book.tx.changes < 2 ^ 62 → new.book.tx.next < 2 ^ 62 → device ≤ device_age seat + 2 ^ 20 → device ≤ 2 ^ 62 + 2 ^ 21 → Ages device new.device_age (2 ^ 38) → n ≡ new.book.tx.changes → ((damage : Damage) → damaged_in (seat_rested seat) damage → ⊥) → SeatGoes seat lines.Mount (answers.Mounted n) (Mounted new)
 mount_goes seat m new n device known up held clear mounts begins changes next woken low aged is none =
     let P : Machine → Type 0 = λ x. Mounts x new.book in
     let here = subst P up mounts in
-    let now = new.book.run.machine.stable in
-    let machine : new.book.run.machine ≡ begun (record (restarted (seat_machine seat)) { stable = now }) 0 = begins ∙ ap (λ (x : Machine). begun (record x { stable = now }) 0) up in
-    let cuts : new.book.run.machine.most_cuts ≡ (seat_machine seat).most_cuts = ap (λ (x : Machine). x.most_cuts) machine in
-    let faults : new.book.run.machine.most_faults ≡ (seat_machine seat).most_faults = ap (λ (x : Machine). x.most_faults) machine in
+    let now = new.book.tx.machine.stable in
+    let machine : new.book.tx.machine ≡ begun (record (restarted (seat_machine seat)) { stable = now }) 0 = begins ∙ ap (λ (x : Machine). begun (record x { stable = now }) 0) up in
+    let cuts : new.book.tx.machine.most_cuts ≡ (seat_machine seat).most_cuts = ap (λ (x : Machine). x.most_cuts) machine in
+    let faults : new.book.tx.machine.most_faults ≡ (seat_machine seat).most_faults = ap (λ (x : Machine). x.most_faults) machine in
     let most = most_le seat in
-    let most_new : max new.book.run.machine.most_cuts new.book.run.machine.most_faults ≤ seat_age seat = omega (arith, cuts, faults, most) in
+    let most_new : max new.book.tx.machine.most_cuts new.book.tx.machine.most_faults ≤ seat_age seat = omega (arith, cuts, faults, most) in
     let aged_by : new.device_age ≤ device_age seat + line_age = omega (arith, aged.bounded, woken) in
     let young : new.device_age ≤ 2 ^ 62 + line_age = omega (arith, aged.bounded, low) in
     let shown = known_up seat m m new.book known up held clear mounts machine in
     record {
       known = shown;
       limits = limits_now new.book shown.0.now shown.1.now ∙ ap limits_in machine ∙ sym (known_room seat known);
-      age = mount_age new.device_age new.book.run.changes new.book.run.next new.book.run.machine.most_cuts new.book.run.machine.most_faults (seat_age seat) young changes next most_new;
+      age = mount_age new.device_age new.book.tx.changes new.book.tx.next new.book.tx.machine.most_cuts new.book.tx.machine.most_faults (seat_age seat) young changes next most_new;
       device = aged_by;
-      strikes = unstruck (seat_machine seat) new.book.run.machine (answers.Mounted n) refl refl (ap (λ (x : Machine). x.cuts) machine) (ap (λ (x : Machine). x.faults) machine);
+      strikes = unstruck (seat_machine seat) new.book.tx.machine (answers.Mounted n) refl refl (ap (λ (x : Machine). x.cuts) machine) (ap (λ (x : Machine). x.faults) machine);
       whole = λ before below. tt;
       each = λ s shows at whole below.
           let st = seat_stores seat s shows in

@@ -21,7 +21,7 @@ use Rattle.kfs_model.specs.Life.{State, Live, Now, Up, Down, Past, tree_at, up_a
 use Rattle.kfs_shows.specs.Named.{AllNamed}
 use Rattle.kfs_shows.proofs.Fresh.{root_is_tree, first_shows}
 use Rattle.kfs_shows.proofs.AllNamed.{named_whole}
-use Rattle.kfs_tx.specs.Run.{SameBounds, age_of, Aged}
+use Rattle.kfs_tx.specs.Tx.{SameBounds, age_of, Aged}
 use Rattle.kfs_core.specs.declared.fault.HostFault.{HostFault}
 use Rattle.kfs_core.specs.declared.fault.HostFault.TheVariants.{Damaged, Cut, Eio, NoMem}
 use Rattle.kfs_core.specs.Clearing.{Keeps}
@@ -41,19 +41,19 @@ use Rattle.kfs_runner.specs.Seats.{Seated, Mounted, Bare, AreArmed, StandsAt, St
 
 -- ---- what is shown is stored
 
-pub limits_now : (b : Book) (now : Now) → ShowsNow b now → limits_of b ≡ limits_in b.run.machine
+pub limits_now : (b : Book) (now : Now) → ShowsNow b now → limits_of b ≡ limits_in b.tx.machine
 limits_now b (Up live) shows = λ i. record { keys = shows.keys i; pages = shows.pages i }
 limits_now b (Down past may) shows = λ i. record { keys = shows.keys i; pages = shows.pages i }
 
-stores_now : (b : Book) (now : Now) → ShowsNow b now → (past : Past) × (k : ℕ) × StandsAt now past k × IsSaved (limits_in b.run.machine) b.run.machine.stable (tree_at past k) k
+stores_now : (b : Book) (now : Now) → ShowsNow b now → (past : Past) × (k : ℕ) × StandsAt now past k × IsSaved (limits_in b.tx.machine) b.tx.machine.stable (tree_at past k) k
 stores_now b (Up live) shows =
-    let P : Limits → Type 0 = λ l. IsSaved l b.run.machine.stable (tree_at live.past live.mark) live.mark in
-    (live.past, live.mark, (refl, refl), subst P (limits_now b (Up live) shows) (whole_saved (limits_of b) b.run.machine.stable (tree_at live.past live.mark) live.mark shows.saved))
+    let P : Limits → Type 0 = λ l. IsSaved l b.tx.machine.stable (tree_at live.past live.mark) live.mark in
+    (live.past, live.mark, (refl, refl), subst P (limits_now b (Up live) shows) (whole_saved (limits_of b) b.tx.machine.stable (tree_at live.past live.mark) live.mark shows.saved))
 stores_now b (Down past may) shows =
-    let P : Limits → Type 0 = λ l. IsSaved l b.run.machine.stable (tree_at past shows.stands) shows.stands in
-    (past, shows.stands, (refl, shows.may_be), subst P (limits_now b (Down past may) shows) (whole_saved (limits_of b) b.run.machine.stable (tree_at past shows.stands) shows.stands shows.saved))
+    let P : Limits → Type 0 = λ l. IsSaved l b.tx.machine.stable (tree_at past shows.stands) shows.stands in
+    (past, shows.stands, (refl, shows.may_be), subst P (limits_now b (Down past may) shows) (whole_saved (limits_of b) b.tx.machine.stable (tree_at past shows.stands) shows.stands shows.saved))
 
-armed_session : (b : Book) (s : State) → ShowsState b s → AreArmed b.run.machine s
+armed_session : (b : Book) (s : State) → ShowsState b s → AreArmed b.tx.machine s
 armed_session b s shows = record {
   cuts = shows.cuts;
   faults = shows.faults;
@@ -133,19 +133,19 @@ struck_by_reply old new reply low_cuts low_faults c = unstruck old new (answers.
 event_of : (old new : Book) (line : Line) (answer : Answer) → GoesOn old line answer new → (s : State) → ShowsState old s → (t : State) × Event (limits_of old) s line answer t × ShowsState new t
 event_of old new line answer goes s shows = planned_goes old line answer new goes s shows
 
-pub call_goes : (old new : SessionState) (call : Call) (reply : Reply) → Known (Mounted old) → GoesOn old.book (lines.Call call) (answers.Reply reply) new.book → Counts old.book.run.machine reply new.book.run.machine → limits_of new.book ≡ limits_of old.book → Aged (running_in old) (running_in new) (2 ^ 38) → SeatGoes (Mounted old) (lines.Call call) (answers.Reply reply) (Mounted new)
+pub call_goes : (old new : SessionState) (call : Call) (reply : Reply) → Known (Mounted old) → GoesOn old.book (lines.Call call) (answers.Reply reply) new.book → Counts old.book.tx.machine reply new.book.tx.machine → limits_of new.book ≡ limits_of old.book → Aged (running_in old) (running_in new) (2 ^ 38) → SeatGoes (Mounted old) (lines.Call call) (answers.Reply reply) (Mounted new)
 call_goes old new call reply known goes counts room aged =
     let low = low_counts (Mounted old) known in
     let it = event_of old.book new.book (lines.Call call) (answers.Reply reply) goes known.0 known.1 in
-    let few = counts_le old.book.run.machine reply new.book.run.machine counts known.1.most_cuts known.1.most_faults in
-    let cuts : new.book.run.machine.most_cuts ≤ old.book.run.machine.most_cuts + 1 = omega (arith, it.2.cuts, one_if_le it.0.cut_armed, few.0) in
-    let faults : new.book.run.machine.most_faults ≤ old.book.run.machine.most_faults + 1 = omega (arith, it.2.faults, one_if_le it.0.fail_armed, few.1) in
+    let few = counts_le old.book.tx.machine reply new.book.tx.machine counts known.1.most_cuts known.1.most_faults in
+    let cuts : new.book.tx.machine.most_cuts ≤ old.book.tx.machine.most_cuts + 1 = omega (arith, it.2.cuts, one_if_le it.0.cut_armed, few.0) in
+    let faults : new.book.tx.machine.most_faults ≤ old.book.tx.machine.most_faults + 1 = omega (arith, it.2.faults, one_if_le it.0.fail_armed, few.1) in
     record {
       known = (it.0, it.2);
       limits = room;
-      age = call_age (age_of (running_in old)) (age_of (running_in new)) old.book.run.machine.most_cuts old.book.run.machine.most_faults new.book.run.machine.most_cuts new.book.run.machine.most_faults aged.whole.bounded cuts faults;
+      age = call_age (age_of (running_in old)) (age_of (running_in new)) old.book.tx.machine.most_cuts old.book.tx.machine.most_faults new.book.tx.machine.most_cuts new.book.tx.machine.most_faults aged.whole.bounded cuts faults;
       device = omega (arith, aged.device.bounded);
-      strikes = struck_by_reply old.book.run.machine new.book.run.machine reply low.0 low.1 counts;
+      strikes = struck_by_reply old.book.tx.machine new.book.tx.machine reply low.0 low.1 counts;
       whole = λ before young. tt;
       each = λ s shows at whole young. event_of old.book new.book (lines.Call call) (answers.Reply reply) goes s shows;
       damaged = λ damage none. absurd none;
@@ -186,37 +186,37 @@ fail_at l s (Down past may) kind n = (refl, refl)
 plan_age : (old_age new_age old_cuts old_faults cuts faults : ℕ) → new_age ≡ old_age → cuts ≤ old_cuts + 1 → faults ≤ old_faults + 1 → max new_age (max cuts faults) ≤ max (max old_age (max old_cuts old_faults)) (2 ^ 62) + line_age
 plan_age old_age new_age old_cuts old_faults cuts faults a b c = omega arith
 
-pub cut_goes : (old new : SessionState) (n how : ℕ) → Known (Mounted old) → (old.book.run.machine.cuts + 1 < 2 ^ 63 → GoesOn old.book (lines.Cut n how) (answers.Reply replies.Done) new.book) → new.book.run.machine ≡ with_most_cuts old.book.run.machine → limits_of new.book ≡ limits_of old.book → age_of (running_in new) ≡ age_of (running_in old) → new.device_age ≡ old.device_age → seat_age (Mounted old) < 2 ^ 63 - 2 ^ 40 → SeatGoes (Mounted old) (lines.Cut n how) (answers.Reply replies.Done) (Mounted new)
+pub cut_goes : (old new : SessionState) (n how : ℕ) → Known (Mounted old) → (old.book.tx.machine.cuts + 1 < 2 ^ 63 → GoesOn old.book (lines.Cut n how) (answers.Reply replies.Done) new.book) → new.book.tx.machine ≡ with_most_cuts old.book.tx.machine → limits_of new.book ≡ limits_of old.book → age_of (running_in new) ≡ age_of (running_in old) → new.device_age ≡ old.device_age → seat_age (Mounted old) < 2 ^ 63 - 2 ^ 40 → SeatGoes (Mounted old) (lines.Cut n how) (answers.Reply replies.Done) (Mounted new)
 cut_goes old new n how known goes planned room same device young =
     let most = most_le (Mounted old) in
-    let few : old.book.run.machine.cuts + 1 < 2 ^ 63 = omega (arith, known.1.most_cuts, most, young) in
+    let few : old.book.tx.machine.cuts + 1 < 2 ^ 63 = omega (arith, known.1.most_cuts, most, young) in
     let it = event_of old.book new.book (lines.Cut n how) (answers.Reply replies.Done) (goes few) known.0 known.1 in
-    let cuts : new.book.run.machine.most_cuts ≤ old.book.run.machine.most_cuts + 1 = omega (arith, ap (λ (x : Machine). x.most_cuts) planned, known.1.most_cuts) in
-    let faults : new.book.run.machine.most_faults ≤ old.book.run.machine.most_faults + 1 = omega (arith, ap (λ (x : Machine). x.most_faults) planned) in
+    let cuts : new.book.tx.machine.most_cuts ≤ old.book.tx.machine.most_cuts + 1 = omega (arith, ap (λ (x : Machine). x.most_cuts) planned, known.1.most_cuts) in
+    let faults : new.book.tx.machine.most_faults ≤ old.book.tx.machine.most_faults + 1 = omega (arith, ap (λ (x : Machine). x.most_faults) planned) in
     record {
       known = (it.0, it.2);
       limits = room;
-      age = plan_age (age_of (running_in old)) (age_of (running_in new)) old.book.run.machine.most_cuts old.book.run.machine.most_faults new.book.run.machine.most_cuts new.book.run.machine.most_faults same cuts faults;
+      age = plan_age (age_of (running_in old)) (age_of (running_in new)) old.book.tx.machine.most_cuts old.book.tx.machine.most_faults new.book.tx.machine.most_cuts new.book.tx.machine.most_faults same cuts faults;
       device = omega (arith, device);
-      strikes = unstruck old.book.run.machine new.book.run.machine (answers.Reply replies.Done) refl refl (ap (λ (x : Machine). x.cuts) planned) (ap (λ (x : Machine). x.faults) planned);
+      strikes = unstruck old.book.tx.machine new.book.tx.machine (answers.Reply replies.Done) refl refl (ap (λ (x : Machine). x.cuts) planned) (ap (λ (x : Machine). x.faults) planned);
       whole = λ before low. tt;
       each = λ s shows at whole low. event_of old.book new.book (lines.Cut n how) (answers.Reply replies.Done) (goes few) s shows;
       damaged = λ damage none. absurd none;
     }
 
-pub fail_goes : (old new : SessionState) (kind n : ℕ) → Known (Mounted old) → (old.book.run.machine.faults + 1 < 2 ^ 63 → GoesOn old.book (lines.Fail kind n) (answers.Reply replies.Done) new.book) → new.book.run.machine ≡ with_most_faults old.book.run.machine new.book.run.machine.most_faults → new.book.run.machine.most_faults ≤ one_more old.book.run.machine.faults → limits_of new.book ≡ limits_of old.book → age_of (running_in new) ≡ age_of (running_in old) → new.device_age ≡ old.device_age → seat_age (Mounted old) < 2 ^ 63 - 2 ^ 40 → SeatGoes (Mounted old) (lines.Fail kind n) (answers.Reply replies.Done) (Mounted new)
+pub fail_goes : (old new : SessionState) (kind n : ℕ) → Known (Mounted old) → (old.book.tx.machine.faults + 1 < 2 ^ 63 → GoesOn old.book (lines.Fail kind n) (answers.Reply replies.Done) new.book) → new.book.tx.machine ≡ with_most_faults old.book.tx.machine new.book.tx.machine.most_faults → new.book.tx.machine.most_faults ≤ one_more old.book.tx.machine.faults → limits_of new.book ≡ limits_of old.book → age_of (running_in new) ≡ age_of (running_in old) → new.device_age ≡ old.device_age → seat_age (Mounted old) < 2 ^ 63 - 2 ^ 40 → SeatGoes (Mounted old) (lines.Fail kind n) (answers.Reply replies.Done) (Mounted new)
 fail_goes old new kind n known goes planned bound room same device young =
     let most = most_le (Mounted old) in
-    let few : old.book.run.machine.faults + 1 < 2 ^ 63 = omega (arith, known.1.most_faults, most, young) in
+    let few : old.book.tx.machine.faults + 1 < 2 ^ 63 = omega (arith, known.1.most_faults, most, young) in
     let it = event_of old.book new.book (lines.Fail kind n) (answers.Reply replies.Done) (goes few) known.0 known.1 in
-    let cuts : new.book.run.machine.most_cuts ≤ old.book.run.machine.most_cuts + 1 = omega (arith, ap (λ (x : Machine). x.most_cuts) planned) in
-    let faults : new.book.run.machine.most_faults ≤ old.book.run.machine.most_faults + 1 = omega (arith, bound, known.1.most_faults) in
+    let cuts : new.book.tx.machine.most_cuts ≤ old.book.tx.machine.most_cuts + 1 = omega (arith, ap (λ (x : Machine). x.most_cuts) planned) in
+    let faults : new.book.tx.machine.most_faults ≤ old.book.tx.machine.most_faults + 1 = omega (arith, bound, known.1.most_faults) in
     record {
       known = (it.0, it.2);
       limits = room;
-      age = plan_age (age_of (running_in old)) (age_of (running_in new)) old.book.run.machine.most_cuts old.book.run.machine.most_faults new.book.run.machine.most_cuts new.book.run.machine.most_faults same cuts faults;
+      age = plan_age (age_of (running_in old)) (age_of (running_in new)) old.book.tx.machine.most_cuts old.book.tx.machine.most_faults new.book.tx.machine.most_cuts new.book.tx.machine.most_faults same cuts faults;
       device = omega (arith, device);
-      strikes = unstruck old.book.run.machine new.book.run.machine (answers.Reply replies.Done) refl refl (ap (λ (x : Machine). x.cuts) planned) (ap (λ (x : Machine). x.faults) planned);
+      strikes = unstruck old.book.tx.machine new.book.tx.machine (answers.Reply replies.Done) refl refl (ap (λ (x : Machine). x.cuts) planned) (ap (λ (x : Machine). x.faults) planned);
       whole = λ before low. tt;
       each = λ s shows at whole low. event_of old.book new.book (lines.Fail kind n) (answers.Reply replies.Done) (goes few) s shows;
       damaged = λ damage none. absurd none;
@@ -330,7 +330,7 @@ room_of keys pages h =
     λ i. few i && none i
 
 -- a session on a new file system shows where a life begins
-pub begins : (m : Machine) (new : SessionState) → IsNew m → 3 ≤ m.room_keys → Mounts m new.book → new.book.run.machine ≡ begun (record m { stable = new.book.run.machine.stable }) 0 → ShowsState new.book newborn × (limits_of new.book ≡ limits_in m)
+pub begins : (m : Machine) (new : SessionState) → IsNew m → 3 ≤ m.room_keys → Mounts m new.book → new.book.tx.machine ≡ begun (record m { stable = new.book.tx.machine.stable }) 0 → ShowsState new.book newborn × (limits_of new.book ≡ limits_in m)
 begins m new is room mounts machine =
     let keys = m.room_keys in
     let pages = m.room_pages in

@@ -6,7 +6,7 @@ use Rattle.kfs_model.specs.declared.Line.{Line}
 use Rattle.kfs_model.specs.declared.Answer.{Answer}
 use Rattle.kfs_model.specs.Tree.{Limits}
 use Rattle.kfs_model.specs.Life.{State, Now, Up, Down, Past, tree_at, AnyOf, Event}
-use Rattle.kfs_tx.specs.Run.{age_of}
+use Rattle.kfs_tx.specs.Tx.{age_of}
 use Rattle.kfs_core.specs.Starting.{first_objects}
 use Rattle.kfs_posix.specs.Book.{SessionState, limits_of, running_in}
 use Rattle.kfs_posix.specs.Showing.{ShowsState, IsSaved, one_if}
@@ -71,7 +71,7 @@ abbrev pub most_of : Machine → ℕ
 most_of m = max m.most_cuts m.most_faults
 
 abbrev pub seat_age : Seated → ℕ
-seat_age (Mounted session) = max (age_of (running_in session)) (most_of session.book.run.machine)
+seat_age (Mounted session) = max (age_of (running_in session)) (most_of session.book.tx.machine)
 seat_age (Bare machine age rested) = most_of machine
 
 -- the greatest number that its device has written
@@ -81,7 +81,7 @@ device_age (Bare machine age rested) = age
 
 -- the device that it has
 abbrev pub seat_machine : Seated → Machine
-seat_machine (Mounted session) = session.book.run.machine
+seat_machine (Mounted session) = session.book.tx.machine
 seat_machine (Bare machine age rested) = machine
 
 -- how often power was cut, and how often an operation failed

@@ -6,7 +6,7 @@ use Rattle.kv_device.specs.Machine.{Machine, is_open}
 use Rattle.kv_device.specs.Calls.{first_of, set_refusal, set_ages, IsFault, Falls, SetFault, Ages}
 use Rattle.kfs_objects.specs.Keys.{be64}
 use Rattle.kfs_objects.specs.Records.{super_value}
-use Rattle.kfs_tx.specs.Run.{RunState, Aged, is_alone, Caused}
+use Rattle.kfs_tx.specs.Tx.{RunningState, Aged, is_alone, Caused}
 use Rattle.kfs_tx.proofs.Alone.{alone_is}
 
 -- a refusal that a transaction that is the only one can meet
@@ -68,9 +68,9 @@ unfolding be64
 super_ages k n = refl
 
 -- the ages after a change: the super's is set, and the transaction ended
-pub change_ages : (old mid new : RunState) (next : ℕ) → Aged old mid 0 → Ages mid.device_age new.device_age (2 ^ 16) → new.run.changes ≡ old.run.changes + 1 → new.run.next ≡ next → old.run.next ≤ next → next ≤ old.run.next + 1 → Aged old new (2 ^ 16)
+pub change_ages : (old mid new : RunningState) (next : ℕ) → Aged old mid 0 → Ages mid.device_age new.device_age (2 ^ 16) → new.tx.changes ≡ old.tx.changes + 1 → new.tx.next ≡ next → old.tx.next ≤ next → next ≤ old.tx.next + 1 → Aged old new (2 ^ 16)
 change_ages old mid new next set ended changes is least most = record { device = record { later = omega arith; bounded = omega arith }; whole = record { later = omega arith; bounded = omega arith } }
 
 -- the ages after a super is set and the transaction's end fails
-pub failed_ages : (old mid new : RunState) → Aged old mid 0 → Aged mid new (2 ^ 16) → Aged old new (2 ^ 16)
+pub failed_ages : (old mid new : RunningState) → Aged old mid 0 → Aged mid new (2 ^ 16) → Aged old new (2 ^ 16)
 failed_ages old mid new set ended = record { device = record { later = omega arith; bounded = omega arith }; whole = record { later = omega arith; bounded = omega arith } }

@@ -1,4 +1,4 @@
--- The refusals that never reach a ready run; what is left are the outside causes.
+-- The refusals that never reach a ready tx; what is left are the outside causes.
 use Rattle.std.proofs.Common.{◌≡◌, ℕ, ◌<◌, ◌+◌, ◌⊎◌, ◌&&◌, ◌||◌, inl, inr, not, true, false, cond, Bool, refl, sym, ◌∙◌, ap, subst, arith, List, [], ◌∷◌, length, Option, Some, None, is_none, unwrap_or, nat_lt, nat_le}
 use Rattle.std.specs.List.{list_all}
 use Rattle.std.specs.FinMap as objects
@@ -10,7 +10,7 @@ use Rattle.kv_device.specs.declared.fault.DeviceFault.TheVariants.{NoTx, Busy, T
 use Rattle.kv_device.specs.Objects.{Changes}
 use Rattle.kv_device.specs.Machine.{Machine, Transactions, changes_of, change_count}
 use Rattle.kv_device.specs.Calls.{ReadFault, SetFault, EndFault, first_of, set_refusal, delete_refusal, is_tx_full, has_room, DeleteFault, IsFault, Falls, FallsReading, FallsEnding}
-use Rattle.kfs_tx.specs.Run.{Run, IsReady, is_full, seen, changed_keys, counted, with_super, PutFault, GetFault, CommitFault, ChangeFault, Fallen, SameBounds}
+use Rattle.kfs_tx.specs.Tx.{Tx, IsReady, is_full, seen, changed_keys, counted, with_super, PutFault, GetFault, CommitFault, ChangeFault, Fallen, SameBounds}
 use Rattle.kfs_objects.specs.Keys.{super_key}
 use Rattle.kfs_objects.specs.Records.{super_value}
 use Rattle.kfs_tx.proofs.Alone.{alone_is}
@@ -30,22 +30,22 @@ few_test : (b c d : Bool) → c ≡ false → d ≡ false → (b && (c || d)) �
 few_test true c d e f = (λ i. e i || f i)
 few_test false c d e f = refl
 
--- a run with room in its transaction
-not_full : (r : Run) (key : List ℕ) → IsReady r → changed_keys r < 640 → is_tx_full r.machine r.tx key ≡ false
+-- a tx with room in its transaction
+not_full : (r : Tx) (key : List ℕ) → IsReady r → changed_keys r < 640 → is_tx_full r.machine r.id key ≡ false
 unfolding is_tx_full
 not_full r key ready few =
-    let a = alone_is r.machine.pending r.tx ready.alone in
+    let a = alone_is r.machine.pending r.id ready.alone in
     let n = changed_keys r in
     let same : change_count r.machine.pending ≡ n = ap change_count a.is ∙ first_counted a.changes a.rest a.none ∙ sym (λ i. objects.len (unwrap_or (changes_of (record r.machine { pending = a.is i }) (a.first i)) objects.empty)) in
-    few_test (not (objects.contains_key (unwrap_or (changes_of r.machine r.tx) objects.empty) key)) (nat_le 640 n) (nat_le 1280 (change_count r.machine.pending)) (grind (arith, nat_tests)) (grind (arith, nat_tests))
+    few_test (not (objects.contains_key (unwrap_or (changes_of r.machine r.id) objects.empty) key)) (nat_le 640 n) (nat_le 1280 (change_count r.machine.pending)) (grind (arith, nat_tests)) (grind (arith, nat_tests))
 
-reads_allowed : (r : Run) → IsReady r → first_of r.machine r.tx None ≡ None
+reads_allowed : (r : Tx) → IsReady r → first_of r.machine r.id None ≡ None
 reads_allowed r ready = λ i. cond (not (ready.up i)) (Some Off) (cond (not (ready_open r ready i)) (Some NoTx) None)
 
-set_allowed : (r : Run) (key value : List ℕ) → IsReady r → changed_keys r < 640 → (nat_lt 128 (length value) && nat_lt 32 (length key)) ≡ false → set_refusal r.machine r.tx key value ≡ None
+set_allowed : (r : Tx) (key value : List ℕ) → IsReady r → changed_keys r < 640 → (nat_lt 128 (length value) && nat_lt 32 (length key)) ≡ false → set_refusal r.machine r.id key value ≡ None
 set_allowed r key value ready few small = λ i. cond (not (ready.up i)) (Some Off) (cond (not (ready_open r ready i)) (Some NoTx) (cond (small i) (Some BadSize) (cond (not_full r key ready few i) (Some TxFull) None)))
 
-delete_allowed : (r : Run) (key : List ℕ) → IsReady r → changed_keys r < 640 → delete_refusal r.machine r.tx key ≡ None
+delete_allowed : (r : Tx) (key : List ℕ) → IsReady r → changed_keys r < 640 → delete_refusal r.machine r.id key ≡ None
 delete_allowed r key ready few = λ i. cond (not (ready.up i)) (Some Off) (cond (not (ready_open r ready i)) (Some NoTx) (cond (not_full r key ready few i) (Some TxFull) None))
 
 bounds_of : (m x new : Machine) → new ≡ x → SameBounds m x → SameBounds m new
@@ -84,28 +84,28 @@ pub only_memory : (m new : Machine) (fault : DeviceFault) → fault ≡ Memory �
 only_memory m new fault e same = subst (λ f. Fallen m f m.stable new) (sym e) (record { cause = (ap (λ (x : Machine). x.cuts) same, ap (λ (x : Machine). x.faults) same); stable = ap (λ (x : Machine). x.stable) same; bounds = bounds_along _ _ _ same refl refl refl refl })
 
 -- a call that only reads
-pub read_falls : (r : Run) (fault : DeviceFault) (new : Machine) → IsReady r → ReadFault r.machine r.tx fault new → Fallen r.machine fault r.machine.stable new
+pub read_falls : (r : Tx) (fault : DeviceFault) (new : Machine) → IsReady r → ReadFault r.machine r.id fault new → Fallen r.machine fault r.machine.stable new
 read_falls r fault new ready h = falls r.machine fault new (falls_reading r.machine fault new (subst (λ o. IsFault o FallsReading r.machine fault new) (reads_allowed r ready) h))
 
-pub only_memory_falls : (r : Run) (new : Machine) (fault : DeviceFault) → fault ≡ Memory → new ≡ r.machine → Fallen r.machine fault r.machine.stable new
+pub only_memory_falls : (r : Tx) (new : Machine) (fault : DeviceFault) → fault ≡ Memory → new ≡ r.machine → Fallen r.machine fault r.machine.stable new
 only_memory_falls r new fault e same = only_memory r.machine new fault e same
 
-pub get_falls : (r : Run) (fault : DeviceFault) (new : Machine) → IsReady r → GetFault r fault new → Fallen r.machine fault r.machine.stable new
+pub get_falls : (r : Tx) (fault : DeviceFault) (new : Machine) → IsReady r → GetFault r fault new → Fallen r.machine fault r.machine.stable new
 get_falls r fault new ready (inl h, _) = only_memory r.machine new fault h.0 h.1
 get_falls r fault new ready (inr h, _) = read_falls r fault new ready h
 
-pub set_falls : (r : Run) (key value : List ℕ) (fault : DeviceFault) (new : Machine) → IsReady r → changed_keys r < 640 → (nat_lt 128 (length value) && nat_lt 32 (length key)) ≡ false → SetFault r.machine r.tx key value fault new → Fallen r.machine fault r.machine.stable new
+pub set_falls : (r : Tx) (key value : List ℕ) (fault : DeviceFault) (new : Machine) → IsReady r → changed_keys r < 640 → (nat_lt 128 (length value) && nat_lt 32 (length key)) ≡ false → SetFault r.machine r.id key value fault new → Fallen r.machine fault r.machine.stable new
 set_falls r key value fault new ready few small h = falls r.machine fault new (subst (λ o. IsFault o Falls r.machine fault new) (set_allowed r key value ready few small) h)
 
-pub put_falls : (r : Run) (key value : List ℕ) (fault : DeviceFault) (new : Machine) → IsReady r → changed_keys r < 640 → (nat_lt 128 (length value) && nat_lt 32 (length key)) ≡ false → PutFault r key value fault new → Fallen r.machine fault r.machine.stable new
+pub put_falls : (r : Tx) (key value : List ℕ) (fault : DeviceFault) (new : Machine) → IsReady r → changed_keys r < 640 → (nat_lt 128 (length value) && nat_lt 32 (length key)) ≡ false → PutFault r key value fault new → Fallen r.machine fault r.machine.stable new
 put_falls r key value fault new ready few small (inl h, _) = only_memory r.machine new fault h.0 h.1
 put_falls r key value fault new ready few small (inr h, _) = set_falls r key value fault new ready few small h
 
-pub delete_falls : (r : Run) (key : List ℕ) (fault : DeviceFault) (new : Machine) → IsReady r → changed_keys r < 640 → DeleteFault r.machine r.tx key fault new → Fallen r.machine fault r.machine.stable new
+pub delete_falls : (r : Tx) (key : List ℕ) (fault : DeviceFault) (new : Machine) → IsReady r → changed_keys r < 640 → DeleteFault r.machine r.id key fault new → Fallen r.machine fault r.machine.stable new
 delete_falls r key fault new ready few h = falls r.machine fault new (falls_reading r.machine fault new (subst (λ o. IsFault o FallsReading r.machine fault new) (delete_allowed r key ready few) h))
 
 -- as before, or as after the end
-ends : (r : Run) (fault : DeviceFault) (new : Machine) → has_room r.machine (seen r) ≡ true → FallsEnding (seen r) r.machine fault new → Fallen r.machine fault r.machine.stable new ⊎ Fallen r.machine fault (seen r) new
+ends : (r : Tx) (fault : DeviceFault) (new : Machine) → has_room r.machine (seen r) ≡ true → FallsEnding (seen r) r.machine fault new → Fallen r.machine fault r.machine.stable new ⊎ Fallen r.machine fault (seen r) new
 ends r NoTx new room h = absurd (elim h [ inl a ↦ a | inr a ↦ a.1 ])
 ends r Busy new room h = absurd (elim h [ inl a ↦ a | inr a ↦ a.1 ])
 ends r TxFull new room h = absurd (elim h [ inl a ↦ a | inr a ↦ a.1 ])
@@ -124,10 +124,10 @@ ends r Memory new room h = elim h [
   | inr a ↦ inr (record { cause = (ap (λ (x : Machine). x.cuts) a.1, ap (λ (x : Machine). x.faults) a.1); stable = ap (λ (x : Machine). x.stable) a.1; bounds = bounds_along _ _ _ a.1 refl refl refl refl })
 ]
 
-pub end_falls : (r : Run) (fault : DeviceFault) (new : Machine) → IsReady r → has_room r.machine (seen r) ≡ true → EndFault r.machine r.tx fault new → Fallen r.machine fault r.machine.stable new ⊎ Fallen r.machine fault (seen r) new
+pub end_falls : (r : Tx) (fault : DeviceFault) (new : Machine) → IsReady r → has_room r.machine (seen r) ≡ true → EndFault r.machine r.id fault new → Fallen r.machine fault r.machine.stable new ⊎ Fallen r.machine fault (seen r) new
 end_falls r fault new ready room h = ends r fault new room (subst (λ o. IsFault o (FallsEnding (seen r)) r.machine fault new) (reads_allowed r ready) h)
 
-pub commit_falls : (r : Run) (fault : DeviceFault) (new : Machine) → IsReady r → has_room r.machine (seen r) ≡ true → CommitFault r fault new → Fallen r.machine fault r.machine.stable new ⊎ Fallen r.machine fault (seen r) new
+pub commit_falls : (r : Tx) (fault : DeviceFault) (new : Machine) → IsReady r → has_room r.machine (seen r) ≡ true → CommitFault r fault new → Fallen r.machine fault r.machine.stable new ⊎ Fallen r.machine fault (seen r) new
 commit_falls r fault new ready room h = end_falls r fault new ready room h.0
 
 super_small : (k n : ℕ) → (nat_lt 128 (length (super_value k n)) && nat_lt 32 (length super_key)) ≡ false
@@ -138,7 +138,7 @@ super_small k n = both_false (nat_lt 128 (length (super_value k n)))
     both_false false = refl
 
 -- one change: as before, or at a boundary as after it
-pub change_falls : (r : Run) (weight next : ℕ) (fault : DeviceFault) (new : Machine) → IsReady r → changed_keys r < 640 → has_room r.machine (seen (with_super r next)) ≡ true → ChangeFault r weight next fault new
+pub change_falls : (r : Tx) (weight next : ℕ) (fault : DeviceFault) (new : Machine) → IsReady r → changed_keys r < 640 → has_room r.machine (seen (with_super r next)) ≡ true → ChangeFault r weight next fault new
     → Fallen r.machine fault r.machine.stable new ⊎ ((is_full (r.since + 1) (r.weight + weight) ≡ true) × Fallen r.machine fault (seen (with_super r next)) new)
 change_falls r weight next fault new ready few room (inl h) = inl (put_falls r super_key (super_value (r.changes + 1) next) fault new ready few (super_small (r.changes + 1) next) h)
 change_falls r weight next fault new ready few room (inr h) = elim (commit_falls (counted r weight next) fault new (record { up = ready'.up; alone = ready'.alone }) room h.1) [
@@ -150,6 +150,6 @@ change_falls r weight next fault new ready few room (inr h) = elim (commit_falls
     ready' = ready_put r super_key (super_value (r.changes + 1) next) ready
 
 -- a call that only reads meets no cut
-pub get_not_off : (r : Run) (new : Machine) → IsReady r → GetFault r Off new → ⊥
+pub get_not_off : (r : Tx) (new : Machine) → IsReady r → GetFault r Off new → ⊥
 get_not_off r new ready (inl h, _) = absurd (let bad : Off ≡ Memory = h.0 in cc)
 get_not_off r new ready (inr h, _) = let f : IsFault None FallsReading r.machine Off new = subst (λ o. IsFault o FallsReading r.machine Off new) (reads_allowed r ready) h in absurd f

@@ -7,7 +7,7 @@ use Rattle.kv_device.specs.declared.fault.DeviceFault.TheVariants.{NoTx, Busy, O
 use Rattle.kv_device.specs.Objects.{seen_through}
 use Rattle.kv_device.specs.Machine.{Machine, none_open, free_number, begun, aborted, view, changes_of}
 use Rattle.kv_device.specs.Calls.{BeginDone, GetDone, AbortDone, BeginFault, AbortFault, ReadFault, IsFault, Never, begin_refusal, first_of}
-use Rattle.kfs_tx.specs.Run.{IsReady, Fallen, is_alone, started, changed_keys}
+use Rattle.kfs_tx.specs.Tx.{IsReady, Fallen, is_alone, started, changed_keys}
 use Rattle.kfs_tx.proofs.Seeing.{seen_nothing}
 use Rattle.kfs_tx.proofs.Falling.{read_falls}
 

@@ -5,7 +5,7 @@ use Rattle.std.specs.FinMap as objects
 use Rattle.kv_device.specs.Objects.{Objects, Changes}
 use Rattle.kv_device.specs.Asked.{Asked}
 use Rattle.kv_device.specs.Machine.{Machine, Transactions}
-use Rattle.kfs_tx.specs.Run.{Run, RunState}
+use Rattle.kfs_tx.specs.Tx.{Tx, RunningState}
 
 abbrev pub objects_code : Coded Objects
 objects_code = objects.code (coded_list coded_ℕ) (coded_list coded_ℕ)
@@ -40,11 +40,11 @@ machine_code =
     })
     (λ _. refl)
 
-abbrev pub run_code : Coded Run
-run_code =
+abbrev pub tx_code : Coded Tx
+tx_code =
     code_by (Machine × (ℕ × (ℕ × (ℕ × (ℕ × ℕ))))) (coded× machine_code (coded× coded_ℕ (coded× coded_ℕ (coded× coded_ℕ (coded× coded_ℕ coded_ℕ)))))
-    (λ r. (r.machine, (r.tx, (r.changes, (r.next, (r.since, r.weight))))))
-    (λ p. record { machine = p.0; tx = p.1.0; changes = p.1.1.0; next = p.1.1.1.0; since = p.1.1.1.1.0; weight = p.1.1.1.1.1 })
+    (λ r. (r.machine, (r.id, (r.changes, (r.next, (r.since, r.weight))))))
+    (λ p. record { machine = p.0; id = p.1.0; changes = p.1.1.0; next = p.1.1.1.0; since = p.1.1.1.1.0; weight = p.1.1.1.1.1 })
     (λ _. refl)
 
 -- two numbers, where there are any
@@ -61,9 +61,9 @@ asked_code =
     (λ p. record { cut = p.0; fault = p.1.0; work = p.1.1 })
     (λ _. refl)
 
-abbrev pub state_code : Coded RunState
+abbrev pub state_code : Coded RunningState
 state_code =
-    code_by (Run × (ℕ × Asked)) (coded× run_code (coded× coded_ℕ asked_code))
-    (λ s. (s.run, (s.device_age, s.asked)))
-    (λ p. record { run = p.0; device_age = p.1.0; asked = p.1.1 })
+    code_by (Tx × (ℕ × Asked)) (coded× tx_code (coded× coded_ℕ asked_code))
+    (λ s. (s.tx, (s.device_age, s.asked)))
+    (λ p. record { tx = p.0; device_age = p.1.0; asked = p.1.1 })
     (λ _. refl)

@@ -7,7 +7,7 @@ ghost use Rattle.kv_device.specs.Asked.{asks_cut, asks_fault};
 ghost use Rattle.kv_device.specs.Machine.{none_open, with_most_cuts, with_most_faults};
 ghost use Rattle.kv_device.specs.Objects.{pairs_from, pair_of};
 ghost use Rattle.kv_device.specs.Calls.{ReadFault, SetFault, DeleteFault, WorkFault, set_refusal, delete_refusal, set_ages, Ages};
-ghost use Rattle.kfs_tx.specs.Run.{Aged, Caused, CausedAlone, ChangeFault, CommitFault, HasRoom, IsAllowed, age_of, committed, deleted_in, is_full, one_change, opened, put_in, seen};
+ghost use Rattle.kfs_tx.specs.Tx.{Aged, Caused, CausedAlone, ChangeFault, CommitFault, HasRoom, IsAllowed, age_of, committed, deleted_in, is_full, one_change, opened, put_in, seen};
 
 use kfs_objects::{Super, super_key};
 use kv_base::{Key, Pairs, Value};
@@ -24,7 +24,7 @@ const MOST_WEIGHT: u64 = 256;
 #[derive(Drop)]
 pub struct Running<D: Device> {
     device: D,
-    tx: TxId,
+    id: TxId,
     head: Super,
     since: u32,
     weight: u32,
@@ -32,16 +32,16 @@ pub struct Running<D: Device> {
 
 impl<D: Device> Model for Running<D> {
     ghost use Rattle.std.specs.Prelude.{◌≡◌, ◌<◌, true};
-    ghost use Rattle.kfs_tx.specs.Run.{RunState, run_of, IsKept};
+    ghost use Rattle.kfs_tx.specs.Tx.{RunningState, tx_of, IsKept};
     ghost use Rattle.kfs_tx.specs.Codes.{state_code};
 
-    ghost Value = { RunState };
+    ghost Value = { RunningState };
 
     ghost coded = { state_code };
 
-    ghost view = { λ r. record { run = run_of (D.machine r.device) r.tx r.head r.since r.weight; device_age = D.age r.device; asked = D.asked r.device } };
+    ghost view = { λ r. record { tx = tx_of (D.machine r.device) r.id r.head r.since r.weight; device_age = D.age r.device; asked = D.asked r.device } };
 
-    ghost invariant = { λ r. IsKept (run_of (D.machine r.device) r.tx r.head r.since r.weight) };
+    ghost invariant = { λ r. IsKept (tx_of (D.machine r.device) r.id r.head r.since r.weight) };
 }
 
 /// Whether a boundary falls.
@@ -58,11 +58,11 @@ impl<D: Device> Running<D> {
         requires changes { head.changes < 2 ^ 63 - 2 ^ 39 }
         requires next { head.next < 2 ^ 63 - 2 ^ 39 }
         requires idle { (D.machine device).pending ≡ none_open }
-        ensures ok { IfOk result (λ run. run.run ≡ opened (D.machine device) head) }
+        ensures ok { IfOk result (λ running. running.tx ≡ opened (D.machine device) head) }
         ensures up { OnOk result ((D.machine device).up ≡ true) }
         ensures off { IfErr result (λ e. (e.1 ≡ Off) × ((D.machine device).up ≡ false)) }
         ensures left { IfErr result (λ e. D.machine e.0 ≡ D.machine device) }
-        ensures age { IfOk result (λ run. Ages (D.age device) run.device_age 0) }
+        ensures age { IfOk result (λ running. Ages (D.age device) running.device_age 0) }
         ensures age_left { IfErr result (λ e. Ages (D.age device) (D.age e.0) 0) }
     {
         let _ = alloc;
@@ -70,7 +70,7 @@ impl<D: Device> Running<D> {
         match device.begin() {
             Ok(tx) => Ok(Running {
                 device,
-                tx,
+                id: tx,
                 head,
                 since: 0,
                 weight: 0,
@@ -82,42 +82,42 @@ impl<D: Device> Running<D> {
     /// The value of a key, as the transaction sees it.
     pub fn get(&mut self, alloc: Global, key: &Key) -> Result<Option<Value>, DeviceFault>
         requires { age_of self.old < 2 ^ 63 - 2 ^ 38 }
-        ensures found { IfOk result (λ value. value ≡ objects.get (seen self.old.run) key.now) }
-        ensures same { OnOk result (self.new.run ≡ self.old.run) }
-        ensures up { OnOk result (self.old.run.machine.up ≡ true) }
-        ensures err { IfErr result (λ fault. ReadFault self.old.run.machine self.old.run.tx fault self.new.run.machine) }
-        ensures cause { IfErr result (λ fault. CausedAlone self.old.run.machine fault self.new.run.machine) }
-        ensures kept { OnErr result (self.new.run ≡ record self.old.run { machine = self.new.run.machine }) }
+        ensures found { IfOk result (λ value. value ≡ objects.get (seen self.old.tx) key.now) }
+        ensures same { OnOk result (self.new.tx ≡ self.old.tx) }
+        ensures up { OnOk result (self.old.tx.machine.up ≡ true) }
+        ensures err { IfErr result (λ fault. ReadFault self.old.tx.machine self.old.tx.id fault self.new.tx.machine) }
+        ensures cause { IfErr result (λ fault. CausedAlone self.old.tx.machine fault self.new.tx.machine) }
+        ensures kept { OnErr result (self.new.tx ≡ record self.old.tx { machine = self.new.tx.machine }) }
         ensures age { Aged self.old self.new 0 }
     {
-        self.device.get(alloc, self.tx, key)
+        self.device.get(alloc, self.id, key)
     }
 
     /// Gives a key a value within the transaction. Errors: the value or the transaction is too large, the
     /// device failed, or memory is missing; nothing is changed then.
     pub fn set(&mut self, alloc: Global, key: &Key, value: &Value) -> Result<(), DeviceFault>
         requires { age_of self.old < 2 ^ 63 - 2 ^ 38 }
-        ensures ok { OnOk result (self.new.run ≡ put_in self.old.run key.now value.now) }
-        ensures allowed { OnOk result (set_refusal self.old.run.machine self.old.run.tx key.now value.now ≡ None) }
-        ensures err { IfErr result (λ fault. SetFault self.old.run.machine self.old.run.tx key.now value.now fault self.new.run.machine) }
-        ensures cause { IfErr result (λ fault. Caused self.old.run.machine fault self.new.run.machine) }
-        ensures kept { OnErr result (self.new.run ≡ record self.old.run { machine = self.new.run.machine }) }
+        ensures ok { OnOk result (self.new.tx ≡ put_in self.old.tx key.now value.now) }
+        ensures allowed { OnOk result (set_refusal self.old.tx.machine self.old.tx.id key.now value.now ≡ None) }
+        ensures err { IfErr result (λ fault. SetFault self.old.tx.machine self.old.tx.id key.now value.now fault self.new.tx.machine) }
+        ensures cause { IfErr result (λ fault. Caused self.old.tx.machine fault self.new.tx.machine) }
+        ensures kept { OnErr result (self.new.tx ≡ record self.old.tx { machine = self.new.tx.machine }) }
         ensures age { Aged self.old self.new (set_ages value.now) }
     {
-        self.device.set(alloc, self.tx, key, value)
+        self.device.set(alloc, self.id, key, value)
     }
 
     /// Takes a key away within the transaction; one that is absent stays absent. Errors as those of `set`.
     pub fn delete(&mut self, alloc: Global, key: &Key) -> Result<(), DeviceFault>
         requires { age_of self.old < 2 ^ 63 - 2 ^ 38 }
-        ensures ok { OnOk result (self.new.run ≡ deleted_in self.old.run key.now) }
-        ensures allowed { OnOk result (delete_refusal self.old.run.machine self.old.run.tx key.now ≡ None) }
-        ensures err { IfErr result (λ fault. DeleteFault self.old.run.machine self.old.run.tx key.now fault self.new.run.machine) }
-        ensures cause { IfErr result (λ fault. Caused self.old.run.machine fault self.new.run.machine) }
-        ensures kept { OnErr result (self.new.run ≡ record self.old.run { machine = self.new.run.machine }) }
+        ensures ok { OnOk result (self.new.tx ≡ deleted_in self.old.tx key.now) }
+        ensures allowed { OnOk result (delete_refusal self.old.tx.machine self.old.tx.id key.now ≡ None) }
+        ensures err { IfErr result (λ fault. DeleteFault self.old.tx.machine self.old.tx.id key.now fault self.new.tx.machine) }
+        ensures cause { IfErr result (λ fault. Caused self.old.tx.machine fault self.new.tx.machine) }
+        ensures kept { OnErr result (self.new.tx ≡ record self.old.tx { machine = self.new.tx.machine }) }
         ensures age { Aged self.old self.new 0 }
     {
-        self.device.delete(alloc, self.tx, key)
+        self.device.delete(alloc, self.id, key)
     }
 
     /// By rising keys, the first pairs from a key on whose keys begin with a prefix.
@@ -129,26 +129,26 @@ impl<D: Device> Running<D> {
         at_most: u32,
     ) -> Result<Pairs, DeviceFault>
         requires { age_of self.old < 2 ^ 63 - 2 ^ 38 }
-        ensures found { IfOk result (λ pairs. map pair_of pairs ≡ take at_most (pairs_from (seen self.old.run) from.now prefix.now)) }
-        ensures same { OnOk result (self.new.run ≡ self.old.run) }
-        ensures up { OnOk result (self.old.run.machine.up ≡ true) }
-        ensures err { IfErr result (λ fault. ReadFault self.old.run.machine self.old.run.tx fault self.new.run.machine) }
-        ensures cause { IfErr result (λ fault. CausedAlone self.old.run.machine fault self.new.run.machine) }
-        ensures kept { OnErr result (self.new.run ≡ record self.old.run { machine = self.new.run.machine }) }
+        ensures found { IfOk result (λ pairs. map pair_of pairs ≡ take at_most (pairs_from (seen self.old.tx) from.now prefix.now)) }
+        ensures same { OnOk result (self.new.tx ≡ self.old.tx) }
+        ensures up { OnOk result (self.old.tx.machine.up ≡ true) }
+        ensures err { IfErr result (λ fault. ReadFault self.old.tx.machine self.old.tx.id fault self.new.tx.machine) }
+        ensures cause { IfErr result (λ fault. CausedAlone self.old.tx.machine fault self.new.tx.machine) }
+        ensures kept { OnErr result (self.new.tx ≡ record self.old.tx { machine = self.new.tx.machine }) }
         ensures age { Aged self.old self.new 0 }
     {
-        self.device.iterate(alloc, self.tx, from, prefix, at_most)
+        self.device.iterate(alloc, self.id, from, prefix, at_most)
     }
 
     /// Ends the transaction, and begins the next.
     pub fn commit(&mut self, alloc: Global) -> Result<(), DeviceFault>
         requires { age_of self.old < 2 ^ 63 - 2 ^ 39 }
-        ensures ok { OnOk result (self.new.run ≡ committed self.old.run) }
-        ensures room { OnOk result (HasRoom self.old.run) }
-        ensures up { OnOk result (self.old.run.machine.up ≡ true) }
-        ensures err { IfErr result (λ fault. CommitFault self.old.run fault self.new.run.machine) }
-        ensures cause { IfErr result (λ fault. Caused self.old.run.machine fault self.new.run.machine) }
-        ensures kept { OnErr result (self.new.run ≡ record self.old.run { machine = self.new.run.machine }) }
+        ensures ok { OnOk result (self.new.tx ≡ committed self.old.tx) }
+        ensures room { OnOk result (HasRoom self.old.tx) }
+        ensures up { OnOk result (self.old.tx.machine.up ≡ true) }
+        ensures err { IfErr result (λ fault. CommitFault self.old.tx fault self.new.tx.machine) }
+        ensures cause { IfErr result (λ fault. Caused self.old.tx.machine fault self.new.tx.machine) }
+        ensures kept { OnErr result (self.new.tx ≡ record self.old.tx { machine = self.new.tx.machine }) }
         ensures age { Aged self.old self.new (2 ^ 16) }
     {
         self.renew(alloc)
@@ -157,18 +157,18 @@ impl<D: Device> Running<D> {
     /// The same, also right after a change is counted.
     fn renew(&mut self, alloc: Global) -> Result<(), DeviceFault>
         requires { age_of self.old < 2 ^ 63 - 2 ^ 38 - 2 ^ 16 }
-        ensures ok { OnOk result (self.new.run ≡ committed self.old.run) }
-        ensures room { OnOk result (HasRoom self.old.run) }
-        ensures up { OnOk result (self.old.run.machine.up ≡ true) }
-        ensures err { IfErr result (λ fault. CommitFault self.old.run fault self.new.run.machine) }
-        ensures cause { IfErr result (λ fault. Caused self.old.run.machine fault self.new.run.machine) }
-        ensures changes { self.new.run.changes ≡ self.old.run.changes }
-        ensures next { self.new.run.next ≡ self.old.run.next }
-        ensures kept { OnErr result (self.new.run ≡ record self.old.run { machine = self.new.run.machine }) }
+        ensures ok { OnOk result (self.new.tx ≡ committed self.old.tx) }
+        ensures room { OnOk result (HasRoom self.old.tx) }
+        ensures up { OnOk result (self.old.tx.machine.up ≡ true) }
+        ensures err { IfErr result (λ fault. CommitFault self.old.tx fault self.new.tx.machine) }
+        ensures cause { IfErr result (λ fault. Caused self.old.tx.machine fault self.new.tx.machine) }
+        ensures changes { self.new.tx.changes ≡ self.old.tx.changes }
+        ensures next { self.new.tx.next ≡ self.old.tx.next }
+        ensures kept { OnErr result (self.new.tx ≡ record self.old.tx { machine = self.new.tx.machine }) }
         ensures age { Aged self.old self.new (2 ^ 16) }
     {
-        self.device.end(alloc, self.tx)?;
-        self.tx = self.device.begin()?;
+        self.device.end(alloc, self.id)?;
+        self.id = self.device.begin()?;
         self.since = 0;
         self.weight = 0;
         Ok(())
@@ -177,13 +177,13 @@ impl<D: Device> Running<D> {
     /// Counts one change, and commits where a boundary falls: true exactly there.
     pub fn change(&mut self, alloc: Global, weight: u32, next: u64) -> Result<bool, DeviceFault>
         requires age { age_of self.old < 2 ^ 63 - 2 ^ 38 - 2 ^ 17 }
-        requires next { (self.old.run.next ≤ next) × (next ≤ self.old.run.next + 1) }
-        ensures boundary { IfOk result (λ falls. falls ≡ is_full (self.old.run.since + 1) (self.old.run.weight + weight)) }
-        ensures ok { OnOk result (self.new.run ≡ one_change self.old.run weight next) }
-        ensures allowed { OnOk result (IsAllowed self.old.run weight next) }
-        ensures err { IfErr result (λ fault. ChangeFault self.old.run weight next fault self.new.run.machine) }
-        ensures cause { IfErr result (λ fault. Caused self.old.run.machine fault self.new.run.machine) }
-        ensures kept { OnErr result (self.new.run ≡ record self.old.run { machine = self.new.run.machine }) }
+        requires next { (self.old.tx.next ≤ next) × (next ≤ self.old.tx.next + 1) }
+        ensures boundary { IfOk result (λ falls. falls ≡ is_full (self.old.tx.since + 1) (self.old.tx.weight + weight)) }
+        ensures ok { OnOk result (self.new.tx ≡ one_change self.old.tx weight next) }
+        ensures allowed { OnOk result (IsAllowed self.old.tx weight next) }
+        ensures err { IfErr result (λ fault. ChangeFault self.old.tx weight next fault self.new.tx.machine) }
+        ensures cause { IfErr result (λ fault. Caused self.old.tx.machine fault self.new.tx.machine) }
+        ensures kept { OnErr result (self.new.tx ≡ record self.old.tx { machine = self.new.tx.machine }) }
         ensures age { Aged self.old self.new (2 ^ 16) }
     {
         let head = Super {
@@ -209,11 +209,11 @@ impl<D: Device> Running<D> {
     /// Lets the device do at most so many operations of due jobs.
     pub fn work(&mut self, alloc: Global, operations: u32) -> Result<(), DeviceFault>
         requires { age_of self.old < 2 ^ 63 - 2 ^ 39 }
-        ensures same { OnOk result (self.new.run ≡ self.old.run) }
-        ensures up { OnOk result (self.old.run.machine.up ≡ true) }
-        ensures err { IfErr result (λ fault. WorkFault self.old.run.machine fault self.new.run.machine) }
-        ensures cause { IfErr result (λ fault. CausedAlone self.old.run.machine fault self.new.run.machine) }
-        ensures kept { OnErr result (self.new.run ≡ record self.old.run { machine = self.new.run.machine }) }
+        ensures same { OnOk result (self.new.tx ≡ self.old.tx) }
+        ensures up { OnOk result (self.old.tx.machine.up ≡ true) }
+        ensures err { IfErr result (λ fault. WorkFault self.old.tx.machine fault self.new.tx.machine) }
+        ensures cause { IfErr result (λ fault. CausedAlone self.old.tx.machine fault self.new.tx.machine) }
+        ensures kept { OnErr result (self.new.tx ≡ record self.old.tx { machine = self.new.tx.machine }) }
         ensures age { Aged self.old self.new (2 ^ 20) }
         ensures asked { self.new.asked.work ≡ operations }
     {
@@ -222,30 +222,30 @@ impl<D: Device> Running<D> {
 
     /// The numbers of keys and of large values that the device has room for.
     pub fn limits(&self) -> (u32, u32)
-        ensures keys { result.0 ≡ self.now.run.machine.room_keys }
-        ensures pages { result.1 ≡ self.now.run.machine.room_pages }
+        ensures keys { result.0 ≡ self.now.tx.machine.room_keys }
+        ensures pages { result.1 ≡ self.now.tx.machine.room_pages }
     {
         self.device.limits()
     }
 
     /// The weight of the changes since the last boundary.
     pub fn weight(&self) -> u32
-        ensures { result ≡ self.now.run.weight }
+        ensures { result ≡ self.now.tx.weight }
     {
         self.weight
     }
 
     /// How many changes there were, and the next number.
     pub fn head(&self) -> Super
-        ensures changes { result.changes ≡ self.now.run.changes }
-        ensures next { result.next ≡ self.now.run.next }
+        ensures changes { result.changes ≡ self.now.tx.changes }
+        ensures next { result.next ≡ self.now.tx.next }
     {
         self.head
     }
 
     /// Gives the device back. What was changed since the last boundary is lost.
     pub fn into_device(self) -> D
-        ensures machine { D.machine result ≡ self.run.machine }
+        ensures machine { D.machine result ≡ self.tx.machine }
         ensures age { D.age result ≡ self.device_age }
         ensures asked { D.asked result ≡ self.asked }
     {
@@ -259,7 +259,7 @@ impl<D: PlannedDevice> Running<D> {
     pub fn plan_cut(&mut self, n: u32, how: u8)
         requires n { 1 ≤ n }
         requires how { how ≤ 3 }
-        ensures planned { self.new.run ≡ record self.old.run { machine = with_most_cuts self.old.run.machine } }
+        ensures planned { self.new.tx ≡ record self.old.tx { machine = with_most_cuts self.old.tx.machine } }
         ensures age { self.new.device_age ≡ self.old.device_age }
         ensures asked { self.new.asked ≡ asks_cut self.old.asked n how }
     {
@@ -270,9 +270,9 @@ impl<D: PlannedDevice> Running<D> {
     pub fn plan_fail(&mut self, kind: u8, n: u32)
         requires n { 1 ≤ n }
         requires kind { kind ≤ 2 }
-        ensures planned { self.new.run ≡ record self.old.run { machine = with_most_faults self.old.run.machine self.new.run.machine.most_faults } }
-        ensures fewest { self.old.run.machine.faults ≤ self.new.run.machine.most_faults }
-        ensures most { self.new.run.machine.most_faults ≤ one_more self.old.run.machine.faults }
+        ensures planned { self.new.tx ≡ record self.old.tx { machine = with_most_faults self.old.tx.machine self.new.tx.machine.most_faults } }
+        ensures fewest { self.old.tx.machine.faults ≤ self.new.tx.machine.most_faults }
+        ensures most { self.new.tx.machine.most_faults ≤ one_more self.old.tx.machine.faults }
         ensures age { self.new.device_age ≡ self.old.device_age }
         ensures asked { self.new.asked ≡ asks_fault self.old.asked kind n }
     {

@@ -1,7 +1,7 @@
 use Rattle.std.proofs.Common.{◌≤◌, ◌∙◌, sym, arith, ap, subst}
 use Rattle.std.specs.FinMap as objects
 use Rattle.kv_device.specs.Objects.{Objects}
-use Rattle.kfs_tx.specs.Run.{Run, opened, seen}
+use Rattle.kfs_tx.specs.Tx.{Tx, opened, seen}
 use Rattle.kfs_tx.proofs.Opening.{sees_stable}
 use Rattle.kfs_core.specs.Clearing.{Clears}
 use Rattle.kfs_core.specs.Counted.{charge_in, chunks_in}
@@ -26,12 +26,12 @@ left_over-requires-clause-few g c =
 pub returns-else-taken-pages-clause-ok : goal.returns-else-taken-pages-clause-ok
 returns-else-taken-pages-clause-ok g c =
     let m = g.D.Device.machine c.args.device in
-    let r = c.left_over.new.run.run in
-    let clears = subst (λ (old : Run). Clears old r) c.in-Ok.ensures.ok c.in-Ok-left_over.ensures.clears in
+    let r = c.left_over.new.running.tx in
+    let clears = subst (λ (old : Tx). Clears old r) c.in-Ok.ensures.ok c.in-Ok-left_over.ensures.clears in
     let now = sees_now m c.args.head.changes c.args.head.next r c.requires.up c.requires.idle clears in
     record {
       cleared = now_cleared m c.args.head.changes c.args.head.next r c.requires.up c.requires.idle clears c.in-Ok-left_over.ensures.none;
-      run = clears.same;
+      tx = clears.same;
       keys = c.limits-keys.ensures.keys;
       pages = c.limits-keys.ensures.pages;
       charge = c.in-Ok-left_over.ensures.charge ∙ ap charge_in now;

@@ -9,5 +9,5 @@ use Rattle.kfs_core.proofs.removing.lose_name.Goals as goal
 
 pub returns-then-open_now-clause-err : goal.returns-then-open_now-clause-err
 returns-then-open_now-clause-err g c = IfErr-weaker c.put_orphan.result _ _
-    (λ fault h. subst (λ b. Fails c.args.run.now.run (1 + chunks_lost c.args.size b) fault c.put_orphan.new.run.run.machine) (sym c.if-open_now.true)
-    (put_fails c.args.run.now.run (orphan_key c.args.node) orphan_value fault c.put_orphan.new.run.run.machine orphan_small h)) c.put_orphan.ensures.err
+    (λ fault h. subst (λ b. Fails c.args.running.now.tx (1 + chunks_lost c.args.size b) fault c.put_orphan.new.running.tx.machine) (sym c.if-open_now.true)
+    (put_fails c.args.running.now.tx (orphan_key c.args.node) orphan_value fault c.put_orphan.new.running.tx.machine orphan_small h)) c.put_orphan.ensures.err

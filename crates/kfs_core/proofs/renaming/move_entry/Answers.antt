@@ -3,7 +3,7 @@ use Rattle.std.proofs.lemmas.Result.{IfErr-weaker, err_from_is_err_and}
 use Rattle.kfs_objects.specs.Keys.{entry_key}
 use Rattle.kfs_objects.specs.Records.{entry_value}
 use Rattle.kfs_file.proofs.Failing.{fails_weaker}
-use Rattle.kfs_tx.specs.Run.{Run}
+use Rattle.kfs_tx.specs.Tx.{Tx}
 use Rattle.kfs_core.proofs.Dropped.{Follows, deletion_fails, follows_deleted}
 use Rattle.kfs_core.proofs.Naming.{follows_none, fails_following, put_fails, entry_small}
 use Rattle.kfs_core.proofs.renaming.move_entry.Goals as goal
@@ -12,16 +12,16 @@ pub returns-in_err-remove-clause-err : goal.returns-in_err-remove-clause-err
 returns-in_err-remove-clause-err g c =
     let p = err_from_is_err_and c.from_residual.result c.from_residual.ensures.1 in
     let fault = c.in_err-remove.field-0.0 in
-    let new = c.remove.new.run.run.machine in
-    rw (p.1, p.2) (fails_weaker c.args.run.now.run 1 2 fault new (omega arith) (deletion_fails c.args.run.now.run (entry_key c.args.moving.now.parent c.bytes.result.now) fault new c.in_err-remove.ensures.err))
+    let new = c.remove.new.running.tx.machine in
+    rw (p.1, p.2) (fails_weaker c.args.running.now.tx 1 2 fault new (omega arith) (deletion_fails c.args.running.now.tx (entry_key c.args.moving.now.parent c.bytes.result.now) fault new c.in_err-remove.ensures.err))
 
 pub returns-clause-err : goal.returns-clause-err
 returns-clause-err g c =
-    let old = c.args.run.now.run in
-    let mid = c.remove.new.run.run in
+    let old = c.args.running.now.tx in
+    let mid = c.remove.new.running.tx in
     let moving = c.args.moving.now in
     let key = entry_key moving.parent c.bytes.result.now in
-    let follows = subst (λ (r : Run). Follows old r 1) (sym c.in_ok-remove.ensures.ok) (follows_deleted old old key 0 (follows_none old)) in
+    let follows = subst (λ (r : Tx). Follows old r 1) (sym c.in_ok-remove.ensures.ok) (follows_deleted old old key 0 (follows_none old)) in
     IfErr-weaker c.add.result _ _
-    (λ fault h. fails_following old mid 1 1 2 fault c.add.new.run.run.machine follows (omega arith)
-    (put_fails mid (entry_key moving.new_parent c.bytes-name.result.now) (entry_value moving.node) fault c.add.new.run.run.machine (entry_small moving.node) h)) c.add.ensures.err
+    (λ fault h. fails_following old mid 1 1 2 fault c.add.new.running.tx.machine follows (omega arith)
+    (put_fails mid (entry_key moving.new_parent c.bytes-name.result.now) (entry_value moving.node) fault c.add.new.running.tx.machine (entry_small moving.node) h)) c.add.ensures.err

@@ -9,11 +9,11 @@ puts_cut_ok (Err e) f p q = tt
 
 pub returns-then-length-size-clause-puts : goal.returns-then-length-size-clause-puts
 returns-then-length-size-clause-puts g c = puts_cut_ok c.set_length.result
-    (puts_cut c.args.run.now.run c.set_length.new.run.run c.args.node c.args.size c.args.length c.if-length-size.true) c.set_length.ensures.resizes c.set_length.ensures.keys
+    (puts_cut c.args.running.now.tx c.set_length.new.running.tx c.args.node c.args.size c.args.length c.if-length-size.true) c.set_length.ensures.resizes c.set_length.ensures.keys
 
 pub returns-then-length-size-clause-err : goal.returns-then-length-size-clause-err
 returns-then-length-size-clause-err g c = IfErr-weaker c.set_length.result _ _
-    (λ fault h. cut_fails c.args.run.now.run c.args.size c.args.length fault c.set_length.new.run.run.machine c.if-length-size.true h) c.set_length.ensures.err
+    (λ fault h. cut_fails c.args.running.now.tx c.args.size c.args.length fault c.set_length.new.running.tx.machine c.if-length-size.true h) c.set_length.ensures.err
 
 pub returns-clause-puts : goal.returns-clause-puts
-returns-clause-puts g c = puts_none c.args.run.now.run c.args.node c.args.size c.args.length c.if-length-size.false
+returns-clause-puts g c = puts_none c.args.running.now.tx c.args.node c.args.size c.args.length c.if-length-size.false

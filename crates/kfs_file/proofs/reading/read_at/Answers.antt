@@ -1,5 +1,5 @@
 use Rattle.std.proofs.Common.{◌<◌, ◌%◌, ◌/◌, ◌++◌, ◌∙◌, ap, arith}
-use Rattle.kfs_tx.specs.Run.{Run, seen}
+use Rattle.kfs_tx.specs.Tx.{Tx, seen}
 use Rattle.kfs_file.specs.Contents.{piece_at, piece_in}
 use Rattle.kfs_file.proofs.ReadingPieces.{reads_on}
 use Rattle.kfs_file.proofs.reading.read_at.Goals as goal
@@ -15,8 +15,8 @@ loop-place-preserved g c =
     record {
       from = omega (arith, least);
       within = omega (arith, least, lt);
-      reads = reads_on (seen c.args.run.now.run) c.args.node c.args.size c.args.offset c.min-end.result c.loop-place.place c.min-some.result c.loop-place.text c.read_piece.new.text before.reads
-          (c.in_ok-read_piece.ensures.ok ∙ ap (λ (r : Run). c.loop-place.text ++ piece_at (piece_in (seen r) c.args.node (c.loop-place.place / 4096)) (c.loop-place.place % 4096) c.min-some.result) before.same)
+      reads = reads_on (seen c.args.running.now.tx) c.args.node c.args.size c.args.offset c.min-end.result c.loop-place.place c.min-some.result c.loop-place.text c.read_piece.new.text before.reads
+          (c.in_ok-read_piece.ensures.ok ∙ ap (λ (r : Tx). c.loop-place.text ++ piece_at (piece_in (seen r) c.args.node (c.loop-place.place / 4096)) (c.loop-place.place % 4096) c.min-some.result) before.same)
           before.from lt (omega (arith, end)) c.requires.size least;
       same = c.in_ok-read_piece.ensures.same ∙ before.same;
       age = record { device = record { later = omega (arith, first.device.later, then.device.later); bounded = omega (arith, first.device.bounded, then.device.bounded) }; whole = record { later = omega (arith, first.whole.later, then.whole.later); bounded = omega (arith, first.whole.bounded, then.whole.bounded) } };

@@ -1,5 +1,5 @@
 use Rattle.std.proofs.Common.{◌≡◌, ◌≤◌, ◌-◌, max}
-use Rattle.kfs_tx.specs.Run.{Aged, seen}
+use Rattle.kfs_tx.specs.Tx.{Aged, seen}
 use Rattle.kfs_file.specs.Contents.{ReadsFile}
 use Rattle.kfs_file.proofs.reading.read_at.Given as goal
 
@@ -8,9 +8,9 @@ abbrev pub invariant-loop-place : goal.invariant-loop-place
 invariant-loop-place g l = record {
   from : l.offset ≤ l.place;
   within : l.place ≤ max l.offset l.end;
-  reads : ReadsFile (seen l.fn.run.run) l.node l.size l.offset (l.place - l.offset) l.text;
-  same : l.run.run ≡ l.fn.run.run;
-  age : Aged l.fn.run l.run 0;
+  reads : ReadsFile (seen l.fn.running.tx) l.node l.size l.offset (l.place - l.offset) l.text;
+  same : l.running.tx ≡ l.fn.running.tx;
+  age : Aged l.fn.running l.running 0;
 }
 
 abbrev pub decreases-loop-place : goal.decreases-loop-place

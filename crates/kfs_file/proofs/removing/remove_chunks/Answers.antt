@@ -9,8 +9,8 @@ loop-chunk-preserved g c =
     let first = before.age in
     let then = c.in_ok-remove_piece.ensures.age in
     record {
-      removes = removes_more c.args.run.now.run c.loop-chunk.run.run c.remove_piece.new.run.run c.args.node c.args.from c.loop-chunk.chunk before.removes (omega arith) c.in_ok-remove_piece.ensures.ok;
-      keys = keys_more c.args.run.now.run c.loop-chunk.run.run c.remove_piece.new.run.run c.args.node c.args.from c.loop-chunk.chunk before.removes (omega arith) c.in_ok-remove_piece.ensures.ok before.keys;
+      removes = removes_more c.args.running.now.tx c.loop-chunk.running.tx c.remove_piece.new.running.tx c.args.node c.args.from c.loop-chunk.chunk before.removes (omega arith) c.in_ok-remove_piece.ensures.ok;
+      keys = keys_more c.args.running.now.tx c.loop-chunk.running.tx c.remove_piece.new.running.tx c.args.node c.args.from c.loop-chunk.chunk before.removes (omega arith) c.in_ok-remove_piece.ensures.ok before.keys;
       age = record { device = record { later = omega (arith, first.device.later, then.device.later); bounded = omega (arith, first.device.bounded, then.device.bounded) }; whole = record { later = omega (arith, first.whole.later, then.whole.later); bounded = omega (arith, first.whole.bounded, then.whole.bounded) } };
     }
 
@@ -19,4 +19,4 @@ returns-in_err-remove_piece-clause-err g c =
     let p = err_from_is_err_and c.from_residual.result c.from_residual.ensures.1 in
     let before = c.loop-chunk.invariant in
     rw (p.1, p.2)
-    (removal_fails c.args.run.now.run c.loop-chunk.run.run c.args.node c.args.from c.loop-chunk.chunk (c.args.to - c.args.from) c.in_err-remove_piece.field-0.0 c.remove_piece.new.run.run.machine before.removes before.keys (omega arith) c.in_err-remove_piece.ensures.err)
+    (removal_fails c.args.running.now.tx c.loop-chunk.running.tx c.args.node c.args.from c.loop-chunk.chunk (c.args.to - c.args.from) c.in_err-remove_piece.field-0.0 c.remove_piece.new.running.tx.machine before.removes before.keys (omega arith) c.in_err-remove_piece.ensures.err)

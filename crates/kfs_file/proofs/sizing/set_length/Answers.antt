@@ -6,11 +6,11 @@ use Rattle.kfs_file.proofs.Resizing.{resizes_longer, resizes_shorter}
 use Rattle.kfs_file.proofs.sizing.set_length.Goals as goal
 
 pub returns-then-old-new-clause-resizes : goal.returns-then-old-new-clause-resizes
-returns-then-old-new-clause-resizes g c = resizes_longer c.args.run.now.run c.args.node c.args.old c.args.new (omega arith)
+returns-then-old-new-clause-resizes g c = resizes_longer c.args.running.now.tx c.args.node c.args.old c.args.new (omega arith)
 
 pub returns-clause-resizes : goal.returns-clause-resizes
 returns-clause-resizes g c = on_ok_weaker c.remove_chunks.result
-    (λ removes. resizes_shorter c.args.run.now.run c.cut_end.new.run.run c.remove_chunks.new.run.run c.args.node c.args.old c.args.new (omega arith) c.requires.old c.in_ok-cut_end.ensures.cuts removes) c.remove_chunks.ensures.removes
+    (λ removes. resizes_shorter c.args.running.now.tx c.cut_end.new.running.tx c.remove_chunks.new.running.tx c.args.node c.args.old c.args.new (omega arith) c.requires.old c.in_ok-cut_end.ensures.cuts removes) c.remove_chunks.ensures.removes
 
 pub returns-clause-keys : goal.returns-clause-keys
 returns-clause-keys g c = on_ok_weaker c.remove_chunks.result
@@ -18,10 +18,10 @@ returns-clause-keys g c = on_ok_weaker c.remove_chunks.result
 
 pub returns-clause-err : goal.returns-clause-err
 returns-clause-err g c = IfErr-weaker c.remove_chunks.result _ _
-    (λ fault h. fails_after c.args.run.now.run c.cut_end.new.run.run ((c.args.new % 4096 + 4095) / 4096) ((c.args.old + 4095) / 4096 - (c.args.new + 4095) / 4096) (touched c.args.new (c.args.old - c.args.new)) fault c.remove_chunks.new.run.run.machine
+    (λ fault h. fails_after c.args.running.now.tx c.cut_end.new.running.tx ((c.args.new % 4096 + 4095) / 4096) ((c.args.old + 4095) / 4096 - (c.args.new + 4095) / 4096) (touched c.args.new (c.args.old - c.args.new)) fault c.remove_chunks.new.running.tx.machine
     c.in_ok-cut_end.ensures.cuts.same c.in_ok-cut_end.ensures.cuts.ready c.in_ok-cut_end.ensures.keys (omega arith) h) c.remove_chunks.ensures.err
 
 pub returns-in_err-cut_end-clause-err : goal.returns-in_err-cut_end-clause-err
 returns-in_err-cut_end-clause-err g c =
     let p = err_from_is_err_and c.from_residual.result c.from_residual.ensures.1 in
-    rw (p.1, p.2) (fails_weaker c.args.run.now.run 1 (touched c.args.new (c.args.old - c.args.new)) c.in_err-cut_end.field-0.0 c.cut_end.new.run.run.machine (omega arith) c.in_err-cut_end.ensures.err)
+    rw (p.1, p.2) (fails_weaker c.args.running.now.tx 1 (touched c.args.new (c.args.old - c.args.new)) c.in_err-cut_end.field-0.0 c.cut_end.new.running.tx.machine (omega arith) c.in_err-cut_end.ensures.err)

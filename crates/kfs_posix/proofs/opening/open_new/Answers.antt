@@ -7,9 +7,9 @@ use Rattle.kfs_path.specs.declared.call.Flags.{Flags}
 use Rattle.kfs_model.specs.Ladder.{◌>>=◌, ◌>>◌, ◌when◌}
 use Rattle.kfs_model.specs.Desk.{lowest_free}
 use Rattle.kfs_model.specs.Step.{Route, or_else}
-use Rattle.kfs_tx.specs.Run.{seen}
+use Rattle.kfs_tx.specs.Tx.{seen}
 use Rattle.kfs_core.specs.declared.room.Space.{Space}
-use Rattle.kfs_core.specs.Core.{run_in}
+use Rattle.kfs_core.specs.Core.{tx_in}
 use Rattle.kfs_core.specs.Room.{space_in}
 use Rattle.kfs_core.specs.Flat.{Where, create_at}
 use Rattle.kfs_core.specs.Spot.{route_of}
@@ -31,13 +31,13 @@ returns-clause-does g c =
     let does = c.in_ok-node.ensures.does in
     let fd = c.in-Some.fd in (
       New does.0 fd,
-      judged (seen (run_in c.args.kfs.now)) (space_in c.args.kfs.now) o (route_of c.args.path.now) c.args.flags does.0 fd c.if-not-flags.false c.if-path.false c.in-Some.ensures.lowest does.1,
+      judged (seen (tx_in c.args.kfs.now)) (space_in c.args.kfs.now) o (route_of c.args.path.now) c.args.flags does.0 fd c.if-not-flags.false c.if-path.false c.in-Some.ensures.lowest does.1,
       (
         refl,
         does.2,
         c.in_ok-node.ensures.charge,
         c.in_ok-node.ensures.chunks,
-        new_opened o c.reserve.new.self.opens c.open.new.self.opens fd c.open.result c.opened_file.result (opened_file (run_in c.args.kfs.now).next true 0 c.args.flags) c.in_ok-reserve.ensures.same c.open.ensures.free c.open.ensures.opened
+        new_opened o c.reserve.new.self.opens c.open.new.self.opens fd c.open.result c.opened_file.result (opened_file (tx_in c.args.kfs.now).next true 0 c.args.flags) c.in_ok-reserve.ensures.same c.open.ensures.free c.open.ensures.opened
             (c.opened_file.ensures ∙ ap (λ n. opened_file n true 0 c.args.flags) c.in_ok-node.ensures.node),
       ),
     )

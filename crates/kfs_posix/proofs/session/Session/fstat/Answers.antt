@@ -24,7 +24,7 @@ pub returns-clause-goes_on : goal.returns-clause-goes_on
 returns-clause-goes_on g c = subst (λ (s : SessionState). GoesOn c.args.self.now.book (lines.Call (calls.Fstat c.args.fd)) (answers.Reply c.fstat.result) s.book) c.self.view_is (turned_goes c.args.self.now c.self.inside.kfs c.self.inside.files.opens c.self.inside.files.opens c.self.inside.down c.self.view_is (none_of c.self.inside.down c.if-is_some.ensures) (calls.Fstat c.args.fd) c.fstat.result (fstat_in c.self.inside.files.opens c.args.fd) (fstat_turns c.self.inside.files.opens c.args.fd) c.fstat.ensures)
 
 pub returns-clause-counts : goal.returns-clause-counts
-returns-clause-counts g c = subst (λ (s : SessionState). Counts c.args.self.now.book.run.machine c.fstat.result s.book.run.machine) c.self.view_is (turned_counts c.args.self.now c.self.inside.kfs c.self.inside.files.opens c.self.inside.files.opens c.self.inside.down c.self.view_is (none_of c.self.inside.down c.if-is_some.ensures) (calls.Fstat c.args.fd) c.fstat.result (fstat_in c.self.inside.files.opens c.args.fd) (fstat_turns c.self.inside.files.opens c.args.fd) c.fstat.ensures)
+returns-clause-counts g c = subst (λ (s : SessionState). Counts c.args.self.now.book.tx.machine c.fstat.result s.book.tx.machine) c.self.view_is (turned_counts c.args.self.now c.self.inside.kfs c.self.inside.files.opens c.self.inside.files.opens c.self.inside.down c.self.view_is (none_of c.self.inside.down c.if-is_some.ensures) (calls.Fstat c.args.fd) c.fstat.result (fstat_in c.self.inside.files.opens c.args.fd) (fstat_turns c.self.inside.files.opens c.args.fd) c.fstat.ensures)
 
 pub returns-clause-down : goal.returns-clause-down
 returns-clause-down g c = subst (λ (s : SessionState). KeepsCause c.args.self.now.book c.fstat.result s.book) c.self.view_is (turned_keeps c.args.self.now c.self.inside.kfs c.self.inside.files.opens c.self.inside.files.opens c.self.inside.down c.self.view_is (none_of c.self.inside.down c.if-is_some.ensures) (calls.Fstat c.args.fd) c.fstat.result (fstat_in c.self.inside.files.opens c.args.fd) (fstat_turns c.self.inside.files.opens c.args.fd) c.fstat.ensures)

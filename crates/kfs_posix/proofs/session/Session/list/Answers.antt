@@ -1,7 +1,7 @@
 use Rattle.std.proofs.Common.{ap, arith, refl}
 use Rattle.kfs_path.specs.declared.call.Call.TheVariants as calls
-use Rattle.kfs_tx.specs.Run.{Run}
-use Rattle.kfs_core.specs.Core.{run_in}
+use Rattle.kfs_tx.specs.Tx.{Tx}
+use Rattle.kfs_core.specs.Core.{tx_in}
 use Rattle.kfs_posix.proofs.Calls.{none_of}
 use Rattle.kfs_posix.proofs.Fault.{counts_by, keeps_by, none_kept, counts_same, read_counts}
 use Rattle.kfs_posix.proofs.Answered.{off_goes, off_keeps, aged_none, aged_by, age_in, keys_in, list_answered, list_refused}
@@ -32,7 +32,7 @@ pub returns-in-Err-clause-goes_on : goal.returns-in-Err-clause-goes_on
 returns-in-Err-clause-goes_on g c = (list_refused c.args.self.now c.self.inside.kfs c.names.new.kfs c.self.inside.files.opens c.self.inside.down c.self.view_is (none_of c.self.inside.down c.if-is_some.ensures) c.in-Err.ensures.rest c.args.path.now c.refuse.result c.in-Err.fault c.refuse.new.down (keys_in c.args.self.now c.self.inside.kfs c.self.inside.files.opens c.self.inside.down c.self.view_is c.requires.room) c.in-Err.ensures.gives c.in-Err.ensures.leaves c.refuse.ensures.reply c.refuse.ensures.down).goes
 
 pub returns-in-Err-clause-counts : goal.returns-in-Err-clause-counts
-returns-in-Err-clause-counts g c = counts_by c.args.self.now c.self.inside.kfs c.self.inside.files.opens c.self.inside.down c.refuse.result c.in-Err.fault c.names.new.kfs.running.run.machine c.self.view_is c.refuse.ensures.reply (read_counts (run_in c.self.inside.kfs) (run_in c.names.new.kfs) c.in-Err.fault (awake_in (book_of c.self.inside.kfs c.self.inside.files.opens c.self.inside.down) c.self.invariant (none_of c.self.inside.down c.if-is_some.ensures)) c.in-Err.ensures.leaves)
+returns-in-Err-clause-counts g c = counts_by c.args.self.now c.self.inside.kfs c.self.inside.files.opens c.self.inside.down c.refuse.result c.in-Err.fault c.names.new.kfs.running.tx.machine c.self.view_is c.refuse.ensures.reply (read_counts (tx_in c.self.inside.kfs) (tx_in c.names.new.kfs) c.in-Err.fault (awake_in (book_of c.self.inside.kfs c.self.inside.files.opens c.self.inside.down) c.self.invariant (none_of c.self.inside.down c.if-is_some.ensures)) c.in-Err.ensures.leaves)
 
 pub returns-in-Err-clause-down : goal.returns-in-Err-clause-down
 returns-in-Err-clause-down g c = keeps_by c.args.self.now c.self.inside.kfs c.names.new.kfs c.self.inside.files.opens c.self.inside.down c.refuse.new.down c.refuse.result c.in-Err.fault c.self.view_is (none_of c.self.inside.down c.if-is_some.ensures) c.refuse.ensures.reply c.refuse.ensures.down
@@ -47,7 +47,7 @@ pub returns-in-Ok-clause-goes_on : goal.returns-in-Ok-clause-goes_on
 returns-in-Ok-clause-goes_on g c = list_answered c.args.self.now c.self.inside.kfs c.names.new.kfs c.self.inside.files.opens c.self.inside.down c.self.view_is (none_of c.self.inside.down c.if-is_some.ensures) c.in-Ok.ensures.rest c.args.path.now c.in-Ok.names (keys_in c.args.self.now c.self.inside.kfs c.self.inside.files.opens c.self.inside.down c.self.view_is c.requires.room) c.in-Ok.ensures.gives c.in-Ok.ensures.leaves
 
 pub returns-in-Ok-clause-counts : goal.returns-in-Ok-clause-counts
-returns-in-Ok-clause-counts g c = counts_same c.args.self.now c.self.inside.kfs c.self.inside.files.opens c.self.inside.down c.names.new.kfs.running.run.machine c.self.view_is (ap (λ (r : Run). r.machine.cuts) c.in-Ok.ensures.leaves) (ap (λ (r : Run). r.machine.faults) c.in-Ok.ensures.leaves)
+returns-in-Ok-clause-counts g c = counts_same c.args.self.now c.self.inside.kfs c.self.inside.files.opens c.self.inside.down c.names.new.kfs.running.tx.machine c.self.view_is (ap (λ (r : Tx). r.machine.cuts) c.in-Ok.ensures.leaves) (ap (λ (r : Tx). r.machine.faults) c.in-Ok.ensures.leaves)
 
 pub returns-in-Ok-clause-down : goal.returns-in-Ok-clause-down
 returns-in-Ok-clause-down g c = none_kept c.args.self.now c.self.inside.kfs c.self.inside.files.opens c.self.inside.down c.self.view_is (none_of c.self.inside.down c.if-is_some.ensures)

@@ -1,5 +1,5 @@
 use Rattle.std.proofs.Common.{ap, None}
-use Rattle.kfs_tx.specs.Run.{Run}
+use Rattle.kfs_tx.specs.Tx.{Tx}
 use Rattle.kfs_posix.specs.Book.{book_of}
 use Rattle.kfs_posix.proofs.Mounting.{mounted, mount_showing}
 use Rattle.kfs_posix.proofs.session.Session.mount.Goals as goal
@@ -14,7 +14,7 @@ pub returns-in-Ok-clause-ok : goal.returns-in-Ok-clause-ok
 returns-in-Ok-clause-ok g c = mounted (g.D.Device.machine c.args.device) c.requires.up c.requires.idle c.in-Ok.kfs c.new.result.opens c.new.ensures c.requires.room c.in-Ok.ensures.ok
 
 pub returns-in-Ok-clause-begun : goal.returns-in-Ok-clause-begun
-returns-in-Ok-clause-begun g c = ap (λ (r : Run). r.machine) c.in-Ok.ensures.ok.run
+returns-in-Ok-clause-begun g c = ap (λ (r : Tx). r.machine) c.in-Ok.ensures.ok.tx
 
 pub returns-in-Ok-clause-shows : goal.returns-in-Ok-clause-shows
 returns-in-Ok-clause-shows g c =

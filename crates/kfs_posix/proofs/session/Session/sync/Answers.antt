@@ -1,7 +1,7 @@
 use Rattle.std.proofs.Common.{◌^◌, ap, arith, refl}
 use Rattle.kfs_path.specs.declared.call.Call.TheVariants as calls
-use Rattle.kfs_tx.specs.Run.{Run}
-use Rattle.kfs_core.specs.Core.{run_in}
+use Rattle.kfs_tx.specs.Tx.{Tx}
+use Rattle.kfs_core.specs.Core.{tx_in}
 use Rattle.kfs_posix.proofs.Calls.{none_of}
 use Rattle.kfs_posix.proofs.Fault.{counts_by, keeps_by, none_kept, counts_same, commit_counts}
 use Rattle.kfs_posix.proofs.Answered.{off_goes, off_keeps, aged_none, aged_by, age_in, sync_answered, sync_refused}
@@ -32,7 +32,7 @@ pub returns-in-Err-clause-goes_on : goal.returns-in-Err-clause-goes_on
 returns-in-Err-clause-goes_on g c = (sync_refused c.args.self.now c.self.inside.kfs c.commit.new.self c.self.inside.files.opens c.self.inside.down c.self.view_is (none_of c.self.inside.down c.if-is_some.ensures) c.in-Err.ensures.rest c.refuse.result c.in-Err.fault c.refuse.new.down c.in-Err.ensures.err c.refuse.ensures.reply c.refuse.ensures.down).goes
 
 pub returns-in-Err-clause-counts : goal.returns-in-Err-clause-counts
-returns-in-Err-clause-counts g c = counts_by c.args.self.now c.self.inside.kfs c.self.inside.files.opens c.self.inside.down c.refuse.result c.in-Err.fault c.commit.new.self.running.run.machine c.self.view_is c.refuse.ensures.reply (commit_counts (run_in c.self.inside.kfs) (run_in c.commit.new.self) c.in-Err.fault (awake_in (book_of c.self.inside.kfs c.self.inside.files.opens c.self.inside.down) c.self.invariant (none_of c.self.inside.down c.if-is_some.ensures)) c.in-Err.ensures.err)
+returns-in-Err-clause-counts g c = counts_by c.args.self.now c.self.inside.kfs c.self.inside.files.opens c.self.inside.down c.refuse.result c.in-Err.fault c.commit.new.self.running.tx.machine c.self.view_is c.refuse.ensures.reply (commit_counts (tx_in c.self.inside.kfs) (tx_in c.commit.new.self) c.in-Err.fault (awake_in (book_of c.self.inside.kfs c.self.inside.files.opens c.self.inside.down) c.self.invariant (none_of c.self.inside.down c.if-is_some.ensures)) c.in-Err.ensures.err)
 
 pub returns-in-Err-clause-down : goal.returns-in-Err-clause-down
 returns-in-Err-clause-down g c = keeps_by c.args.self.now c.self.inside.kfs c.commit.new.self c.self.inside.files.opens c.self.inside.down c.refuse.new.down c.refuse.result c.in-Err.fault c.self.view_is (none_of c.self.inside.down c.if-is_some.ensures) c.refuse.ensures.reply c.refuse.ensures.down
@@ -47,7 +47,7 @@ pub returns-in-Ok-clause-goes_on : goal.returns-in-Ok-clause-goes_on
 returns-in-Ok-clause-goes_on g c = sync_answered c.args.self.now c.self.inside.kfs c.commit.new.self c.self.inside.files.opens c.self.inside.down c.self.view_is (none_of c.self.inside.down c.if-is_some.ensures) c.in-Ok.ensures.rest c.in-Ok.ensures.ok
 
 pub returns-in-Ok-clause-counts : goal.returns-in-Ok-clause-counts
-returns-in-Ok-clause-counts g c = counts_same c.args.self.now c.self.inside.kfs c.self.inside.files.opens c.self.inside.down c.commit.new.self.running.run.machine c.self.view_is (ap (λ (r : Run). r.machine.cuts) c.in-Ok.ensures.ok) (ap (λ (r : Run). r.machine.faults) c.in-Ok.ensures.ok)
+returns-in-Ok-clause-counts g c = counts_same c.args.self.now c.self.inside.kfs c.self.inside.files.opens c.self.inside.down c.commit.new.self.running.tx.machine c.self.view_is (ap (λ (r : Tx). r.machine.cuts) c.in-Ok.ensures.ok) (ap (λ (r : Tx). r.machine.faults) c.in-Ok.ensures.ok)
 
 pub returns-in-Ok-clause-down : goal.returns-in-Ok-clause-down
 returns-in-Ok-clause-down g c = none_kept c.args.self.now c.self.inside.kfs c.self.inside.files.opens c.self.inside.down c.self.view_is (none_of c.self.inside.down c.if-is_some.ensures)

@@ -18,45 +18,45 @@ abbrev pub is_alone : Transactions → ℕ → Bool
 is_alone [] tx = false
 is_alone (t ∷ rest) tx = is_some t && list_all is_none rest && tx == 0
 
-pub record Run : Type 0 where
+pub record Tx : Type 0 where
   pub machine : Machine
-  pub tx : ℕ
+  pub id : ℕ
   pub changes : ℕ
   pub next : ℕ
   pub since : ℕ  -- changes since the last boundary
   pub weight : ℕ  -- and their weight
 
 -- a running transaction, as its callers see it
-pub record RunState : Type 0 where
-  pub run : Run
+pub record RunningState : Type 0 where
+  pub tx : Tx
   pub device_age : ℕ  -- the greatest number that the device has written
   pub asked : Asked  -- what is planned for the device, and the work that it was asked for last
 
 -- the greatest of the device's and the super's numbers
-abbrev pub age_of : RunState → ℕ
-age_of s = max s.device_age (max s.run.changes s.run.next)
+abbrev pub age_of : RunningState → ℕ
+age_of s = max s.device_age (max s.tx.changes s.tx.next)
 
 -- neither age falls, nor rises by more than so much
-pub record Aged (old new : RunState) (most : ℕ) : Type 0 where
+pub record Aged (old new : RunningState) (most : ℕ) : Type 0 where
   pub device : Ages old.device_age new.device_age most
   pub whole : Ages (age_of old) (age_of new) most
 
-abbrev pub run_of : Machine → TxId → Super → ℕ → ℕ → Run
-run_of m tx head since weight = record { machine = m; tx = tx.0; changes = head.changes; next = head.next; since = since; weight = weight }
+abbrev pub tx_of : Machine → TxId → Super → ℕ → ℕ → Tx
+tx_of m tx head since weight = record { machine = m; id = tx.0; changes = head.changes; next = head.next; since = since; weight = weight }
 
 -- the first transaction is begun, and nothing counted
-abbrev pub started : Machine → ℕ → ℕ → Run
-started m changes next = record { machine = begun m 0; tx = 0; changes = changes; next = next; since = 0; weight = 0 }
+abbrev pub started : Machine → ℕ → ℕ → Tx
+started m changes next = record { machine = begun m 0; id = 0; changes = changes; next = next; since = 0; weight = 0 }
 
-abbrev pub opened : Machine → Super → Run
+abbrev pub opened : Machine → Super → Tx
 opened m head = started m head.changes head.next
 
 -- the objects that the transaction sees
-abbrev pub seen : Run → Objects
-seen r = view r.machine r.tx
+abbrev pub seen : Tx → Objects
+seen r = view r.machine r.id
 
-abbrev pub changed_keys : Run → ℕ
-changed_keys r = objects.len (unwrap_or (changes_of r.machine r.tx) objects.empty)
+abbrev pub changed_keys : Tx → ℕ
+changed_keys r = objects.len (unwrap_or (changes_of r.machine r.id) objects.empty)
 
 -- whether a boundary falls after one more change of this weight
 abbrev pub is_full : ℕ → ℕ → Bool
@@ -64,32 +64,32 @@ is_full since weight = nat_le 64 since || nat_le 256 weight
 
 -- ---- what calls do
 
-abbrev pub put_in : Run → List ℕ → List ℕ → Run
-put_in r key value = record r { machine = with_change r.machine r.tx key (Some value) }
+abbrev pub put_in : Tx → List ℕ → List ℕ → Tx
+put_in r key value = record r { machine = with_change r.machine r.id key (Some value) }
 
-abbrev pub deleted_in : Run → List ℕ → Run
-deleted_in r key = record r { machine = with_change r.machine r.tx key None }
+abbrev pub deleted_in : Tx → List ℕ → Tx
+deleted_in r key = record r { machine = with_change r.machine r.id key None }
 
-abbrev pub committed : Run → Run
-committed r = record { machine = begun (ended r.machine r.tx) 0; tx = 0; changes = r.changes; next = r.next; since = 0; weight = 0 }
+abbrev pub committed : Tx → Tx
+committed r = record { machine = begun (ended r.machine r.id) 0; id = 0; changes = r.changes; next = r.next; since = 0; weight = 0 }
 
 -- the objects that it sees have room on the device
-abbrev pub HasRoom : Run → Type 0
+abbrev pub HasRoom : Tx → Type 0
 HasRoom r = has_room r.machine (seen r) ≡ true
 
 -- the super of one more change
-abbrev pub with_super : Run → ℕ → Run
+abbrev pub with_super : Tx → ℕ → Tx
 with_super r next = put_in r super_key (super_value (r.changes + 1) next)
 
-abbrev pub counted : Run → ℕ → ℕ → Run
+abbrev pub counted : Tx → ℕ → ℕ → Tx
 counted r weight next = record (with_super r next) { changes = r.changes + 1; next = next; since = r.since + 1; weight = r.weight + weight }
 
-abbrev pub one_change : Run → ℕ → ℕ → Run
+abbrev pub one_change : Tx → ℕ → ℕ → Tx
 one_change r weight next = if is_full (r.since + 1) (r.weight + weight) then committed (counted r weight next) else counted r weight next
 
 -- the super may be set, and at a boundary there is room
-pub record IsAllowed (r : Run) (weight next : ℕ) : Type 0 where
-  pub super : set_refusal r.machine r.tx super_key (super_value (r.changes + 1) next) ≡ None
+pub record IsAllowed (r : Tx) (weight next : ℕ) : Type 0 where
+  pub super : set_refusal r.machine r.id super_key (super_value (r.changes + 1) next) ≡ None
   pub room : is_full (r.since + 1) (r.weight + weight) ≡ true → HasRoom (with_super r next)
 
 -- ---- outside causes, as the host sees them
@@ -118,28 +118,28 @@ CausedAlone old fault new = Caused old fault new
 -- ---- what an error says
 
 -- want of memory before the device was asked, or what the device answered; and its cause
-abbrev pub PutFault : Run → List ℕ → List ℕ → DeviceFault → Machine → Type 0
-PutFault r key value fault new = (((fault ≡ Memory) × (new ≡ r.machine)) ⊎ SetFault r.machine r.tx key value fault new) × Caused r.machine fault new
+abbrev pub PutFault : Tx → List ℕ → List ℕ → DeviceFault → Machine → Type 0
+PutFault r key value fault new = (((fault ≡ Memory) × (new ≡ r.machine)) ⊎ SetFault r.machine r.id key value fault new) × Caused r.machine fault new
 
-abbrev pub CommitFault : Run → DeviceFault → Machine → Type 0
-CommitFault r fault new = EndFault r.machine r.tx fault new × Caused r.machine fault new
+abbrev pub CommitFault : Tx → DeviceFault → Machine → Type 0
+CommitFault r fault new = EndFault r.machine r.id fault new × Caused r.machine fault new
 
-abbrev pub ChangeFault : Run → ℕ → ℕ → DeviceFault → Machine → Type 0
+abbrev pub ChangeFault : Tx → ℕ → ℕ → DeviceFault → Machine → Type 0
 ChangeFault r weight next fault new =
     PutFault r super_key (super_value (r.changes + 1) next) fault new ⊎ ((is_full (r.since + 1) (r.weight + weight) ≡ true) × CommitFault (counted r weight next) fault new)
 
 -- a call that only reads
-abbrev pub GetFault : Run → DeviceFault → Machine → Type 0
-GetFault r fault new = (((fault ≡ Memory) × (new ≡ r.machine)) ⊎ ReadFault r.machine r.tx fault new) × CausedAlone r.machine fault new
+abbrev pub GetFault : Tx → DeviceFault → Machine → Type 0
+GetFault r fault new = (((fault ≡ Memory) × (new ≡ r.machine)) ⊎ ReadFault r.machine r.id fault new) × CausedAlone r.machine fault new
 
 -- up, and the transaction the only one
-pub record IsReady (r : Run) : Type 0 where
+pub record IsReady (r : Tx) : Type 0 where
   pub up : r.machine.up ≡ true
-  pub alone : is_alone r.machine.pending r.tx ≡ true
+  pub alone : is_alone r.machine.pending r.id ≡ true
 
--- what each run keeps: while the device is up, its transaction is the only one; and no boundary is due
-pub record IsKept (r : Run) : Type 0 where
-  pub alone : r.machine.up ≡ true → is_alone r.machine.pending r.tx ≡ true
+-- what each tx keeps: while the device is up, its transaction is the only one; and no boundary is due
+pub record IsKept (r : Tx) : Type 0 where
+  pub alone : r.machine.up ≡ true → is_alone r.machine.pending r.id ≡ true
   pub few : r.since < 64
   pub light : r.weight < 256
 
