@@ -1,7 +1,7 @@
 // Sessions on a small device, and calls that no script spells.
 ghost use Rattle.std.specs.Prelude.{◌≤◌, ◌+◌, ◌^◌, IfSome};
 ghost use Rattle.kfs_tx.specs.Tx.{age_of};
-ghost use Rattle.kfs_posix.specs.Book.{running_in};
+ghost use Rattle.kfs_posix.specs.Volume.{running_in};
 
 use kfs_core::format;
 use kfs_path::{Cause, Errno, Flags, Reply};

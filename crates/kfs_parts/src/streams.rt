@@ -61,9 +61,9 @@ fn a_writer_is_a_sink(rt: HostRuntime) {
 fn is_too_long(alloc: Global, most: usize) -> Option<bool>
     requires { 3 ≤ most }
 {
-    let seat = format_map(alloc, 256).ok()?;
+    let point = format_map(alloc, 256).ok()?;
     let mut text = Text::new(alloc, b"ok\n").ok()?;
-    match answer_all(alloc, seat, &[Line::Mount, Line::Mount], most, &mut text) {
+    match answer_all(alloc, point, &[Line::Mount, Line::Mount], most, &mut text) {
         Ok(_) => Some(false),
         Err(Unanswered::TooLong) => Some(true),
         Err(Unanswered::Memory) => None,

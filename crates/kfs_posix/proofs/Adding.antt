@@ -28,7 +28,7 @@ use Rattle.kfs_core.proofs.Adding.{free_place, entry_ready, entry_keys, new_is_t
 use Rattle.kfs_core.proofs.Ways.{IsSpot}
 use Rattle.kfs_posix.specs.Opens.{Opens, desk_of}
 use Rattle.kfs_posix.specs.Holding.{Holds}
-use Rattle.kfs_posix.specs.Book.{Book, limits_of, cause_of}
+use Rattle.kfs_posix.specs.Volume.{Volume, limits_of, cause_of}
 use Rattle.kfs_posix.specs.Showing.{ShowsLive, IsWhole, GoesOn}
 use Rattle.kfs_posix.proofs.Changing.{IsPut, change_shown, sees, to_save}
 use Rattle.kfs_posix.proofs.Going.{Fell, spare, as_before, as_after, change_goes_at, fall_goes, Refuses}
@@ -50,7 +50,7 @@ small_inode : (kind : ℕ) (key : List ℕ) → (nat_lt 128 (length (inode_value
 small_inode kind key = let h = length_be64 0 in let f : nat_lt 128 (length (inode_value kind 0)) ≡ false = grind (arith, nat_tests) in ap (λ b. b && nat_lt 32 (length key)) f
 
 -- what the call does to the tree that is shown: the new node lies where the walk over the objects ended
-pub record Adds (old : Book) (node : Node) (call : Call) (reply : Reply) (files : Opens) (d : ℕ) (w : Where) (live : Live) : Type 0 where
+pub record Adds (old : Volume) (node : Node) (call : Call) (reply : Reply) (files : Opens) (d : ℕ) (w : Where) (live : Live) : Type 0 where
   pub place : Place
   pub spot : IsSpot live.world.tree place w
   pub nothing : w.node ≡ None
@@ -59,7 +59,7 @@ pub record Adds (old : Book) (node : Node) (call : Call) (reply : Reply) (files 
   pub holds : Holds files (with_new live.world.tree place node)
   pub fits : old.charge + 2 ≤ old.keys
 
-module _ (old : Book) (kind : ℕ) (node : Node) (fresh : IsFresh node) (value_is : inode_of node ≡ inode_value kind 0) (none : chunks_of node ≡ 0) (w : Where)
+module _ (old : Volume) (kind : ℕ) (node : Node) (fresh : IsFresh node) (value_is : inode_of node ≡ inode_value kind 0) (none : chunks_of node ≡ 0) (w : Where)
     (low : old.tx.next + 1 < 2 ^ 63) (count : old.tx.changes + 1 < 2 ^ 63) where
   abbrev r : Tx
   r = with_entry old.tx kind (parent_of w) w.name
@@ -116,7 +116,7 @@ module _ (old : Book) (kind : ℕ) (node : Node) (fresh : IsFresh node) (value_i
       let tree = with_new live.world.tree a.place node in
       (record { tree = tree; desk = desk_of files }, a.step_is, a.weighs, change_shown old live sh r tree 4 (old.tx.next + 1) (old.charge + 2) old.chunks plan.put plan.charged plan.chunked files a.holds))
 
-  pub add_falls : (new : Book) (call : Call) (reply : Reply) (files : Opens) (fault : DeviceFault) → old.down ≡ None → new.down ≡ Some (cause_of fault) → limits_of new ≡ limits_of old → ((world : World) (cause : Cause) → can_fail world call cause ≡ true)
+  pub add_falls : (new : Volume) (call : Call) (reply : Reply) (files : Opens) (fault : DeviceFault) → old.down ≡ None → new.down ≡ Some (cause_of fault) → limits_of new ≡ limits_of old → ((world : World) (cause : Cause) → can_fail world call cause ≡ true)
       → ((live : Live) → ShowsLive old live → Adds old node call reply files (spare old) w live)
       → AddFault old.tx kind (parent_of w) w.name fault new.tx.machine → Refuses old call (Device fault) new
   add_falls new call reply files fault up down same can adds h = fall_goes old new call fault up down same (λ live sh. fell live sh (adds live sh) h)

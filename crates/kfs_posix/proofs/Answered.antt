@@ -25,7 +25,7 @@ use Rattle.kfs_core.specs.Gives.{Fails, LeavesAtFault, CommitFails}
 use Rattle.kfs_core.specs.Making.{MkdirFails, made, parent_of}
 use Rattle.kfs_posix.specs.declared.open_files.OpenFile.{OpenFile}
 use Rattle.kfs_posix.specs.Opens.{Opens, open_at}
-use Rattle.kfs_posix.specs.Book.{Book, SessionState, state_of, book_of, running_in, limits_of, cause_of}
+use Rattle.kfs_posix.specs.Volume.{Volume, SessionState, state_of, volume_of, running_in, limits_of, cause_of}
 use Rattle.kfs_posix.specs.Answering.{Counts, KeepsCause, refusal, down_after, IsAnswerable}
 use Rattle.kfs_posix.specs.Looking.{found_by, names_by, told_by}
 use Rattle.std.proofs.lemmas.Bool.Decides.{nat_tests}
@@ -35,17 +35,17 @@ use Rattle.kfs_posix.proofs.Going.{spare, idle_goes, down_goes, Refuses, errs}
 use Rattle.kfs_posix.proofs.Held.{described, opened_same}
 use Rattle.kfs_posix.proofs.Calls.{any_cause, commit_goes, commit_falls_in, stat_goes, list_goes, sync_goes, sync_falls}
 use Rattle.kfs_posix.proofs.Looking.{stat_same, list_same, told_ok, names_ok}
-use Rattle.kfs_posix.proofs.Fault.{stays_book, read_refused}
+use Rattle.kfs_posix.proofs.Fault.{stays_volume, read_refused}
 use Rattle.kfs_posix.proofs.Mkdir.{place_fits, mkdir_goes, mkdir_refused, mkdir_unread, mkdir_falls}
 use Rattle.kfs_posix.proofs.Shown.{answers_it}
 
 abbrev Goes : SessionState → Call → Reply → KfsState → Opens → Option Cause → Type 0
-Goes old call reply k1 o d1 = GoesOn old.book (lines.Call call) (answers.Reply reply) (book_of k1 o d1)
+Goes old call reply k1 o d1 = GoesOn old.volume (lines.Call call) (answers.Reply reply) (volume_of k1 o d1)
 
 -- the call failed; the device refused nothing
 pub record Denied (old : SessionState) (call : Call) (fault : CoreFault) (reply : Reply) (k1 : KfsState) (o : Opens) (d1 : Option Cause) : Type 0 where
   pub goes : Goes old call reply k1 o d1
-  pub answerable : IsShowing old.book → IsAnswerable fault
+  pub answerable : IsShowing old.volume → IsAnswerable fault
 
 -- ---- stat and list
 
@@ -56,14 +56,14 @@ abbrev by_told : Result (ℕ × ℕ × ℕ) Errno → Result Reply Errno
 by_told r = r >>= told_ok
 
 module _ (old : SessionState) (k0 k1 : KfsState) (o : Opens) (d : Option Cause) (is : state_of k0 o d ≡ old) (up : d ≡ None) (rest : Stays k0 k1) where
-  abbrev b : Book
-  b = book_of k0 o d
+  abbrev b : Volume
+  b = volume_of k0 o d
 
   -- answered, with all as it was
   same_goes : (call : Call) (reply : Reply) → tx_in k1 ≡ tx_in k0 → GoesOn b (lines.Call call) (answers.Reply reply) b → Goes old call reply k1 o d
   same_goes call reply leaves goes =
-      let e : book_of k1 o d ≡ b = stays_book k0 k1 o d rest ∙ (λ i. record b { tx = leaves i }) in
-      subst (λ (s : SessionState). GoesOn s.book (lines.Call call) (answers.Reply reply) (book_of k1 o d)) is (subst (λ c. GoesOn b (lines.Call call) (answers.Reply reply) c) (sym e) goes)
+      let e : volume_of k1 o d ≡ b = stays_volume k0 k1 o d rest ∙ (λ i. record b { tx = leaves i }) in
+      subst (λ (s : SessionState). GoesOn s.volume (lines.Call call) (answers.Reply reply) (volume_of k1 o d)) is (subst (λ c. GoesOn b (lines.Call call) (answers.Reply reply) c) (sym e) goes)
 
   -- refused, or down
   fault_goes : (call : Call) (reply : Reply) (fault : CoreFault) (d1 : Option Cause) → reply ≡ refusal fault → d1 ≡ down_after d fault
@@ -72,9 +72,9 @@ module _ (old : SessionState) (k0 k1 : KfsState) (o : Opens) (d : Option Cause) 
     where
       goes : Goes old call reply k1 o d1
       goes =
-          let e : book_of k1 o d1 ≡ record b { tx = tx_in k1; down = down_after d fault } = ap (λ (k : KfsState). book_of k o d1) rest ∙ (λ i. record b { tx = tx_in k1; down = down i }) in
-          subst (λ (s : SessionState). GoesOn s.book (lines.Call call) (answers.Reply reply) (book_of k1 o d1)) is
-          (subst (λ r. GoesOn b (lines.Call call) (answers.Reply r) (book_of k1 o d1)) (sym reply_is) (subst (λ c. GoesOn b (lines.Call call) (answers.Reply (refusal fault)) c) (sym e) refuses.goes))
+          let e : volume_of k1 o d1 ≡ record b { tx = tx_in k1; down = down_after d fault } = ap (λ (k : KfsState). volume_of k o d1) rest ∙ (λ i. record b { tx = tx_in k1; down = down i }) in
+          subst (λ (s : SessionState). GoesOn s.volume (lines.Call call) (answers.Reply reply) (volume_of k1 o d1)) is
+          (subst (λ r. GoesOn b (lines.Call call) (answers.Reply r) (volume_of k1 o d1)) (sym reply_is) (subst (λ c. GoesOn b (lines.Call call) (answers.Reply (refusal fault)) c) (sym e) refuses.goes))
 
   pub stat_answered : (path : List ℕ) (n kind size : ℕ) (reply : Reply) → found_by (seen (tx_in k0)) path ≡ Ok (n, kind, size) → reply ≡ told_by (n, kind, size) → tx_in k1 ≡ tx_in k0 → Goes old (calls.Stat path) reply k1 o d
   stat_answered path n kind size reply gives told leaves = same_goes (calls.Stat path) reply leaves
@@ -104,8 +104,8 @@ module _ (old : SessionState) (k0 k1 : KfsState) (o : Opens) (d : Option Cause) 
 
   pub commit_answered : (call : Call) → tx_in k1 ≡ committed (tx_in k0) → GoesOn b (lines.Call call) (answers.Reply replies.Done) (record b { tx = committed (tx_in k0) }) → Goes old call replies.Done k1 o d
   commit_answered call done goes =
-      let e : book_of k1 o d ≡ record b { tx = committed (tx_in k0) } = stays_book k0 k1 o d rest ∙ (λ i. record b { tx = done i }) in
-      subst (λ (s : SessionState). GoesOn s.book (lines.Call call) (answers.Reply replies.Done) (book_of k1 o d)) is (subst (λ c. GoesOn b (lines.Call call) (answers.Reply replies.Done) c) (sym e) goes)
+      let e : volume_of k1 o d ≡ record b { tx = committed (tx_in k0) } = stays_volume k0 k1 o d rest ∙ (λ i. record b { tx = done i }) in
+      subst (λ (s : SessionState). GoesOn s.volume (lines.Call call) (answers.Reply replies.Done) (volume_of k1 o d)) is (subst (λ c. GoesOn b (lines.Call call) (answers.Reply replies.Done) c) (sym e) goes)
 
   pub commit_refused : (call : Call) (reply : Reply) (fault : CoreFault) (d1 : Option Cause) → CommitFails (tx_in k0) (tx_in k1) fault → reply ≡ refusal fault → d1 ≡ down_after d fault
       → ((f : DeviceFault) → CommitFault (tx_in k0) f (tx_in k1).machine → Refuses b call (Device f) (record b { tx = tx_in k1; down = Some (cause_of f) })) → Denied old call fault reply k1 o d1
@@ -138,8 +138,8 @@ module _ (old : SessionState) (k0 k1 : KfsState) (o : Opens) (d : Option Cause) 
 -- ---- mkdir
 
 module _ (old : SessionState) (k0 k1 : KfsState) (o : Opens) (d : Option Cause) (is : state_of k0 o d ≡ old) (up : d ≡ None) (age : age_of (running_in old) < 2 ^ 63 - 2 ^ 40) (keys : k1.keys ≡ k0.keys) (pages : k1.pages ≡ k0.pages) (chunks : k1.chunks ≡ k0.chunks) (path : List ℕ) where
-  abbrev book : Book
-  book = book_of k0 o d
+  abbrev volume : Volume
+  volume = volume_of k0 o d
 
   low : (tx_in k0).next + 1 < 2 ^ 63
   low = let a : age_of (running_in (state_of k0 o d)) < 2 ^ 63 - 2 ^ 40 = subst (λ s. age_of (running_in s) < 2 ^ 63 - 2 ^ 40) (sym is) age in omega arith
@@ -149,33 +149,33 @@ module _ (old : SessionState) (k0 k1 : KfsState) (o : Opens) (d : Option Cause) 
 
   pub mkdir_answered : (w : Where) → place_in (seen (tx_in k0)) k0.keys k0.charge path ≡ Ok w → tx_in k1 ≡ made (tx_in k0) (parent_of w) w.name → k1.charge ≡ k0.charge + 2 → Goes old (calls.Mkdir path) replies.Done k1 o d
   mkdir_answered w judged done charge =
-      subst (λ (s : SessionState). GoesOn s.book (lines.Call (calls.Mkdir path)) (answers.Reply replies.Done) (book_of k1 o d)) is
-      (subst (λ c. GoesOn book (lines.Call (calls.Mkdir path)) (answers.Reply replies.Done) c) (λ i. record { tx = sym done i; keys = sym keys i; pages = sym pages i; charge = sym charge i; chunks = sym chunks i; files = o; down = d })
-      (mkdir_goes book path w up low few (place_fits (seen (tx_in k0)) k0.keys k0.charge path w judged) judged))
+      subst (λ (s : SessionState). GoesOn s.volume (lines.Call (calls.Mkdir path)) (answers.Reply replies.Done) (volume_of k1 o d)) is
+      (subst (λ c. GoesOn volume (lines.Call (calls.Mkdir path)) (answers.Reply replies.Done) c) (λ i. record { tx = sym done i; keys = sym keys i; pages = sym pages i; charge = sym charge i; chunks = sym chunks i; files = o; down = d })
+      (mkdir_goes volume path w up low few (place_fits (seen (tx_in k0)) k0.keys k0.charge path w judged) judged))
 
   pub mkdir_not_made : (reply : Reply) (fault : CoreFault) (d1 : Option Cause) → MkdirFails (tx_in k0) (place_in (seen (tx_in k0)) k0.keys k0.charge path) fault (tx_in k1) → k1.charge ≡ k0.charge → reply ≡ refusal fault → d1 ≡ down_after d fault → Denied old (calls.Mkdir path) fault reply k1 o d1
   mkdir_not_made reply fault d1 fails charge reply_is down = record {
-    goes = subst (λ (s : SessionState). GoesOn s.book (lines.Call (calls.Mkdir path)) (answers.Reply reply) (book_of k1 o d1)) is
-        (subst (λ r. GoesOn book (lines.Call (calls.Mkdir path)) (answers.Reply r) (book_of k1 o d1)) (sym reply_is)
-        (subst (λ c. GoesOn book (lines.Call (calls.Mkdir path)) (answers.Reply (refusal fault)) c) (λ i. record { tx = tx_in k1; keys = sym keys i; pages = sym pages i; charge = sym charge i; chunks = sym chunks i; files = o; down = sym down i }) (by fault fails).goes));
-    answerable = answers_it old k0 o d is up (calls.Mkdir path) fault (record book { tx = tx_in k1; down = down_after d fault }) (by fault fails);
+    goes = subst (λ (s : SessionState). GoesOn s.volume (lines.Call (calls.Mkdir path)) (answers.Reply reply) (volume_of k1 o d1)) is
+        (subst (λ r. GoesOn volume (lines.Call (calls.Mkdir path)) (answers.Reply r) (volume_of k1 o d1)) (sym reply_is)
+        (subst (λ c. GoesOn volume (lines.Call (calls.Mkdir path)) (answers.Reply (refusal fault)) c) (λ i. record { tx = tx_in k1; keys = sym keys i; pages = sym pages i; charge = sym charge i; chunks = sym chunks i; files = o; down = sym down i }) (by fault fails).goes));
+    answerable = answers_it old k0 o d is up (calls.Mkdir path) fault (record volume { tx = tx_in k1; down = down_after d fault }) (by fault fails);
   }
     where
-      by : (fault : CoreFault) → MkdirFails (tx_in k0) (place_in (seen (tx_in k0)) k0.keys k0.charge path) fault (tx_in k1) → Refuses book (calls.Mkdir path) fault (record book { tx = tx_in k1; down = down_after d fault })
-      by (No e) h = errs book (record book { tx = tx_in k1 }) (calls.Mkdir path) e (subst (λ r. GoesOn book (lines.Call (calls.Mkdir path)) (answers.Reply (replies.Err e)) (record book { tx = r })) (sym h.1) (mkdir_refused book path e up h.0))
-      by (Device f) (inl h) = mkdir_unread book path (record book { tx = tx_in k1; down = Some (cause_of f) }) f up refl refl h
-      by (Device f) (inr h) = mkdir_falls book path (record book { tx = tx_in k1; down = Some (cause_of f) }) h.0 f up refl refl low few (place_fits (seen (tx_in k0)) k0.keys k0.charge path h.0 h.1) h.1 h.2
+      by : (fault : CoreFault) → MkdirFails (tx_in k0) (place_in (seen (tx_in k0)) k0.keys k0.charge path) fault (tx_in k1) → Refuses volume (calls.Mkdir path) fault (record volume { tx = tx_in k1; down = down_after d fault })
+      by (No e) h = errs volume (record volume { tx = tx_in k1 }) (calls.Mkdir path) e (subst (λ r. GoesOn volume (lines.Call (calls.Mkdir path)) (answers.Reply (replies.Err e)) (record volume { tx = r })) (sym h.1) (mkdir_refused volume path e up h.0))
+      by (Device f) (inl h) = mkdir_unread volume path (record volume { tx = tx_in k1; down = Some (cause_of f) }) f up refl refl h
+      by (Device f) (inr h) = mkdir_falls volume path (record volume { tx = tx_in k1; down = Some (cause_of f) }) h.0 f up refl refl low few (place_fits (seen (tx_in k0)) k0.keys k0.charge path h.0 h.1) h.1 h.2
 
 -- ---- a session that is down
 
 some_of : (d : Option Cause) → true ≡ is_some d → IsSome d
 some_of d e = sym e
 
-pub off_goes : (old : SessionState) (k0 : KfsState) (o : Opens) (d : Option Cause) (call : Call) → state_of k0 o d ≡ old → true ≡ is_some d → GoesOn old.book (lines.Call call) (answers.Reply replies.Off) old.book
-off_goes old k0 o d call is down = down_goes old.book call (ap (λ (s : SessionState). is_some s.book.down) (sym is) ∙ sym down)
+pub off_goes : (old : SessionState) (k0 : KfsState) (o : Opens) (d : Option Cause) (call : Call) → state_of k0 o d ≡ old → true ≡ is_some d → GoesOn old.volume (lines.Call call) (answers.Reply replies.Off) old.volume
+off_goes old k0 o d call is down = down_goes old.volume call (ap (λ (s : SessionState). is_some s.volume.down) (sym is) ∙ sym down)
 
-pub off_keeps : (old : SessionState) (k0 : KfsState) (o : Opens) (d : Option Cause) → state_of k0 o d ≡ old → true ≡ is_some d → IsSome old.book.down × (old.book ≡ old.book)
-off_keeps old k0 o d is down = (subst (λ (s : SessionState). IsSome s.book.down) is (some_of d down), refl)
+pub off_keeps : (old : SessionState) (k0 : KfsState) (o : Opens) (d : Option Cause) → state_of k0 o d ≡ old → true ≡ is_some d → IsSome old.volume.down × (old.volume ≡ old.volume)
+off_keeps old k0 o d is down = (subst (λ (s : SessionState). IsSome s.volume.down) is (some_of d down), refl)
 
 pub aged_none : (s : RunningState) → Aged s s (2 ^ 38)
 aged_none s = record { device = record { later = omega arith; bounded = omega arith }; whole = record { later = omega arith; bounded = omega arith } }
@@ -187,27 +187,27 @@ aged_by old k0 k1 o d n most is aged = subst (λ (s : SessionState). Aged (runni
 pub age_in : (old : SessionState) (k0 : KfsState) (o : Opens) (d : Option Cause) → state_of k0 o d ≡ old → age_of (running_in old) < 2 ^ 63 - 2 ^ 40 → age_of k0.running < 2 ^ 63 - 2 ^ 39
 age_in old k0 o d is age = let a : age_of k0.running < 2 ^ 63 - 2 ^ 40 = subst (λ (s : SessionState). age_of (running_in s) < 2 ^ 63 - 2 ^ 40) (sym is) age in omega arith
 
-pub keys_in : (old : SessionState) (k0 : KfsState) (o : Opens) (d : Option Cause) → state_of k0 o d ≡ old → old.book.keys ≤ 68544 → k0.keys ≤ 68544
-keys_in old k0 o d is small = subst (λ (s : SessionState). s.book.keys ≤ 68544) (sym is) small
+pub keys_in : (old : SessionState) (k0 : KfsState) (o : Opens) (d : Option Cause) → state_of k0 o d ≡ old → old.volume.keys ≤ 68544 → k0.keys ≤ 68544
+keys_in old k0 o d is small = subst (λ (s : SessionState). s.volume.keys ≤ 68544) (sym is) small
 
 -- ---- room
 
-pub room_goes : (b : Book) → b.down ≡ None → GoesOn b (lines.Call calls.Room) (answers.Reply (replies.Room b.charge b.keys b.chunks b.pages)) b
+pub room_goes : (b : Volume) → b.down ≡ None → GoesOn b (lines.Call calls.Room) (answers.Reply (replies.Room b.charge b.keys b.chunks b.pages)) b
 room_goes b up = idle_goes b calls.Room (replies.Room b.charge b.keys b.chunks b.pages) up (λ w x. refl) refl (λ live sh. (λ i. record { world = live.world; reply = replies.Room (sym sh.charged i) b.keys (sym sh.chunked i) b.pages }))
 
-pub room_answered : (old : SessionState) (k0 : KfsState) (o : Opens) (d : Option Cause) (reply : Reply) → state_of k0 o d ≡ old → d ≡ None → reply ≡ replies.Room k0.charge k0.keys k0.chunks k0.pages → GoesOn old.book (lines.Call calls.Room) (answers.Reply reply) old.book
-room_answered old k0 o d reply is up e = subst (λ (s : SessionState). GoesOn s.book (lines.Call calls.Room) (answers.Reply reply) s.book) is (subst (λ r. GoesOn (book_of k0 o d) (lines.Call calls.Room) (answers.Reply r) (book_of k0 o d)) (sym e) (room_goes (book_of k0 o d) up))
+pub room_answered : (old : SessionState) (k0 : KfsState) (o : Opens) (d : Option Cause) (reply : Reply) → state_of k0 o d ≡ old → d ≡ None → reply ≡ replies.Room k0.charge k0.keys k0.chunks k0.pages → GoesOn old.volume (lines.Call calls.Room) (answers.Reply reply) old.volume
+room_answered old k0 o d reply is up e = subst (λ (s : SessionState). GoesOn s.volume (lines.Call calls.Room) (answers.Reply reply) s.volume) is (subst (λ r. GoesOn (volume_of k0 o d) (lines.Call calls.Room) (answers.Reply r) (volume_of k0 o d)) (sym e) (room_goes (volume_of k0 o d) up))
 
-pub room_quiet : (old : SessionState) (k0 : KfsState) (o : Opens) (d : Option Cause) (reply : Reply) → state_of k0 o d ≡ old → d ≡ None → reply ≡ replies.Room k0.charge k0.keys k0.chunks k0.pages → Counts old.book.tx.machine reply old.book.tx.machine × KeepsCause old.book reply old.book
+pub room_quiet : (old : SessionState) (k0 : KfsState) (o : Opens) (d : Option Cause) (reply : Reply) → state_of k0 o d ≡ old → d ≡ None → reply ≡ replies.Room k0.charge k0.keys k0.chunks k0.pages → Counts old.volume.tx.machine reply old.volume.tx.machine × KeepsCause old.volume reply old.volume
 room_quiet old k0 o d reply is up e =
-    let none : old.book.down ≡ None = sym (ap (λ (s : SessionState). s.book.down) is) ∙ up in
-    subst (λ r. Counts old.book.tx.machine r old.book.tx.machine × KeepsCause old.book r old.book) (sym e) ((refl, refl), (none, none))
+    let none : old.volume.down ≡ None = sym (ap (λ (s : SessionState). s.volume.down) is) ∙ up in
+    subst (λ r. Counts old.volume.tx.machine r old.volume.tx.machine × KeepsCause old.volume r old.volume) (sym e) ((refl, refl), (none, none))
 
 -- a descriptor that isn't open
-pub fsync_bad : (old : SessionState) (k0 : KfsState) (o : Opens) (d : Option Cause) (fd : ℕ) → state_of k0 o d ≡ old → d ≡ None → None ≡ open_at o fd → GoesOn old.book (lines.Call (calls.Fsync fd)) (answers.Reply (replies.Err EBADF)) old.book
+pub fsync_bad : (old : SessionState) (k0 : KfsState) (o : Opens) (d : Option Cause) (fd : ℕ) → state_of k0 o d ≡ old → d ≡ None → None ≡ open_at o fd → GoesOn old.volume (lines.Call (calls.Fsync fd)) (answers.Reply (replies.Err EBADF)) old.volume
 fsync_bad old k0 o d fd is up e =
-    let b = book_of k0 o d in
-    subst (λ (s : SessionState). GoesOn s.book (lines.Call (calls.Fsync fd)) (answers.Reply (replies.Err EBADF)) s.book) is
+    let b = volume_of k0 o d in
+    subst (λ (s : SessionState). GoesOn s.volume (lines.Call (calls.Fsync fd)) (answers.Reply (replies.Err EBADF)) s.volume) is
     (idle_goes b (calls.Fsync fd) (replies.Err EBADF) up (λ w x. refl) refl (λ live sh.
     ap (λ desk. settled live.world (or_else (opened desk fd) EBADF >>= λ it. answered_by live.world replies.Done)) sh.desk
     ∙ ap (λ x. settled live.world (or_else x EBADF >>= λ it. answered_by live.world replies.Done)) (opened_same o fd ∙ ap (option_map described) (sym e))))
@@ -222,5 +222,5 @@ told_file n kind size e = let t : (kind == 1) ≡ false = grind (arith, nat_test
 
 -- ---- the call that is named
 
-pub named_goes : (old new : Book) (k j : Call) (reply : Reply) → k ≡ j → GoesOn old (lines.Call k) (answers.Reply reply) new → GoesOn old (lines.Call j) (answers.Reply reply) new
+pub named_goes : (old new : Volume) (k j : Call) (reply : Reply) → k ≡ j → GoesOn old (lines.Call k) (answers.Reply reply) new → GoesOn old (lines.Call j) (answers.Reply reply) new
 named_goes old new k j reply e goes = subst (λ k. GoesOn old (lines.Call k) (answers.Reply reply) new) e goes

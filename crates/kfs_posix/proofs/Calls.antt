@@ -31,13 +31,13 @@ use Rattle.kfs_core.specs.Stands.{Stands}
 use Rattle.kfs_core.proofs.Judges.{stat_same}
 use Rattle.kfs_core.proofs.Children.{list_same}
 use Rattle.kfs_core.proofs.Small.{commit_small}
-use Rattle.kfs_posix.specs.Book.{Book, limits_of, cause_of}
+use Rattle.kfs_posix.specs.Volume.{Volume, limits_of, cause_of}
 use Rattle.kfs_posix.specs.Showing.{ShowsLive, IsWhole, GoesOn}
 use Rattle.kfs_posix.proofs.Rooms.{named_fits}
 use Rattle.kfs_posix.proofs.Going.{spare, spare_free, as_before, as_synced, idle_goes, fall_goes, up_goes, answered, Refuses}
 use Rattle.kfs_core.specs.declared.fault.CoreFault.TheVariants.{Device}
 
-pub stands_of : (b : Book) (live : Live) → ShowsLive b live → Stands (seen b.tx) live.world.tree
+pub stands_of : (b : Volume) (live : Live) → ShowsLive b live → Stands (seen b.tx) live.world.tree
 stands_of b live sh = record { tree = sh.tree; shows = sh.sees.tree; low = (let h = sh.low in omega arith) }
 
 -- what is answered where nothing changes
@@ -47,7 +47,7 @@ reply_of (Err e) = replies.Err e
 
 -- ---- stat
 
-pub stat_goes : (old : Book) (path : List ℕ) (r : Result Reply Errno) → old.down ≡ None → stat_in (seen old.tx) path ≡ r → GoesOn old (lines.Call (calls.Stat path)) (answers.Reply (reply_of r)) old
+pub stat_goes : (old : Volume) (path : List ℕ) (r : Result Reply Errno) → old.down ≡ None → stat_in (seen old.tx) path ≡ r → GoesOn old (lines.Call (calls.Stat path)) (answers.Reply (reply_of r)) old
 stat_goes old path r up is = idle_goes old (calls.Stat path) (reply_of r) up (λ w x. refl) refl (λ live sh.
     ap (λ s. settled live.world (s >>= answered_by live.world)) (stat_same (seen old.tx) live.world.tree (stands_of old live sh) path ∙ is) ∙ by live r)
   where
@@ -66,7 +66,7 @@ can_read w call r Failed new ready h eio nomem cause e = ap (can_fail w call) e 
 can_read w call r Memory new ready h eio nomem cause e = ap (can_fail w call) e ∙ nomem
 
 -- a call that only reads meets a fault
-pub read_falls : (old new : Book) (call : Call) (fault : DeviceFault) → ((w : World) → can_fail w call Eio ≡ true) → ((w : World) → can_fail w call NoMem ≡ true) → old.down ≡ None → new.down ≡ Some (cause_of fault) → limits_of new ≡ limits_of old → GetFault old.tx fault new.tx.machine
+pub read_falls : (old new : Volume) (call : Call) (fault : DeviceFault) → ((w : World) → can_fail w call Eio ≡ true) → ((w : World) → can_fail w call NoMem ≡ true) → old.down ≡ None → new.down ≡ Some (cause_of fault) → limits_of new ≡ limits_of old → GetFault old.tx fault new.tx.machine
     → Refuses old call (Device fault) new
 read_falls old new call fault eio nomem up down same h = fall_goes old new call fault up down same (λ live sh. record {
   stands = old.tx.machine.stable;
@@ -76,13 +76,13 @@ read_falls old new call fault eio nomem up down same h = fall_goes old new call 
 })
 
 -- what the transaction sees may be saved
-pub live_saved : (b : Book) (live : Live) → ShowsLive b live → IsWhole (limits_of b) (seen b.tx) live.world.tree live.past.count
+pub live_saved : (b : Volume) (live : Live) → ShowsLive b live → IsWhole (limits_of b) (seen b.tx) live.world.tree live.past.count
 live_saved b live sh = record { tree = sh.tree; shows = sh.sees; next = sh.low; count = sh.few_changes; room = named_fits (limits_of b) live.world.tree sh.room }
 
 -- ---- sync
 
 -- a call that commits, whichever it is
-pub commit_goes : (old : Book) (call : Call) → old.down ≡ None → ((w : World) → weight w call (record { world = w; reply = replies.Done }) ≡ None) → commits call replies.Done ≡ true
+pub commit_goes : (old : Volume) (call : Call) → old.down ≡ None → ((w : World) → weight w call (record { world = w; reply = replies.Done }) ≡ None) → commits call replies.Done ≡ true
     → ((live : Live) → ShowsLive old live → step (limits_of old) (spare old) live.world call ≡ record { world = live.world; reply = replies.Done }) → GoesOn old (lines.Call call) (answers.Reply replies.Done) (record old { tx = committed old.tx })
 commit_goes old call up none does did = up_goes old (record old { tx = committed old.tx }) call replies.Done up (λ s live fits sh.
     let is = did live sh in
@@ -113,7 +113,7 @@ commit_goes old call up none does did = up_goes old (record old { tx = committed
       room = sh.room;
     })) refl refl (record { most_cuts = refl; most_faults = refl; room_keys = refl; room_pages = refl }))
 
-pub sync_goes : (old : Book) → old.down ≡ None → GoesOn old (lines.Call calls.Sync) (answers.Reply replies.Done) (record old { tx = committed old.tx })
+pub sync_goes : (old : Volume) → old.down ≡ None → GoesOn old (lines.Call calls.Sync) (answers.Reply replies.Done) (record old { tx = committed old.tx })
 sync_goes old up = commit_goes old calls.Sync up (λ w. refl) refl (λ live sh. refl)
 
 both_true : (a b : Bool) → (a && b) ≡ true → (a ≡ true) × (b ≡ true)
@@ -138,7 +138,7 @@ any_cause w call cut eio nomem Eio = eio
 any_cause w call cut eio nomem NoMem = nomem
 
 -- a call of any kind that meets a fault before it changed anything
-pub unread_falls : (old new : Book) (call : Call) (fault : DeviceFault) → ((w : World) (cause : Cause) → can_fail w call cause ≡ true) → old.down ≡ None → new.down ≡ Some (cause_of fault) → limits_of new ≡ limits_of old → GetFault old.tx fault new.tx.machine
+pub unread_falls : (old new : Volume) (call : Call) (fault : DeviceFault) → ((w : World) (cause : Cause) → can_fail w call cause ≡ true) → old.down ≡ None → new.down ≡ Some (cause_of fault) → limits_of new ≡ limits_of old → GetFault old.tx fault new.tx.machine
     → Refuses old call (Device fault) new
 unread_falls old new call fault can up down same h = fall_goes old new call fault up down same (λ live sh. record {
   stands = old.tx.machine.stable;
@@ -147,7 +147,7 @@ unread_falls old new call fault can up down same h = fall_goes old new call faul
   can = λ cause e. can live.world cause;
 })
 
-pub commit_falls_in : (old new : Book) (call : Call) (fault : DeviceFault) → old.down ≡ None → new.down ≡ Some (cause_of fault) → limits_of new ≡ limits_of old
+pub commit_falls_in : (old new : Volume) (call : Call) (fault : DeviceFault) → old.down ≡ None → new.down ≡ Some (cause_of fault) → limits_of new ≡ limits_of old
     → ((w : World) → weight w call (record { world = w; reply = replies.Done }) ≡ None) → commits call replies.Done ≡ true → ((w : World) (cause : Cause) → can_fail w call cause ≡ true)
     → ((live : Live) → ShowsLive old live → step (limits_of old) (spare old) live.world call ≡ record { world = live.world; reply = replies.Done })
     → CommitFault old.tx fault new.tx.machine → Refuses old call (Device fault) new
@@ -163,7 +163,7 @@ commit_falls_in old new call fault up down same none does can did h = fall_goes 
       }
     ])
 
-pub sync_falls : (old new : Book) (fault : DeviceFault) → old.down ≡ None → new.down ≡ Some (cause_of fault) → limits_of new ≡ limits_of old → CommitFault old.tx fault new.tx.machine → Refuses old calls.Sync (Device fault) new
+pub sync_falls : (old new : Volume) (fault : DeviceFault) → old.down ≡ None → new.down ≡ Some (cause_of fault) → limits_of new ≡ limits_of old → CommitFault old.tx fault new.tx.machine → Refuses old calls.Sync (Device fault) new
 sync_falls old new fault up down same h = commit_falls_in old new calls.Sync fault up down same (λ w. refl) refl (λ w cause. any_cause w calls.Sync refl refl refl cause) (λ live sh. refl) h
 
 pub none_of : (o : Option Cause) → false ≡ is_some o → o ≡ None
@@ -172,7 +172,7 @@ none_of (Some c) e = absurd (cc)
 
 -- ---- list
 
-pub list_goes : (old : Book) (path : List ℕ) (r : Result Reply Errno) → old.down ≡ None → old.keys < 2 ^ 32 → list_in (seen old.tx) path ≡ r → GoesOn old (lines.Call (calls.List path)) (answers.Reply (reply_of r)) old
+pub list_goes : (old : Volume) (path : List ℕ) (r : Result Reply Errno) → old.down ≡ None → old.keys < 2 ^ 32 → list_in (seen old.tx) path ≡ r → GoesOn old (lines.Call (calls.List path)) (answers.Reply (reply_of r)) old
 list_goes old path r up small is = idle_goes old (calls.List path) (reply_of r) up (λ w x. refl) refl (λ live sh.
     let h = both_true (nat_le (charge live.world.tree) old.keys) (nat_le (chunks live.world.tree) old.pages) sh.room in
     let le : charge live.world.tree ≤ old.keys = grind (arith, nat_tests, h.0) in

@@ -11,7 +11,7 @@ use Rattle.kfs_shows.specs.Shows.{Shows, ShowsTree}
 use Rattle.kfs_shows.proofs.Fresh.{with_super}
 use Rattle.kfs_tx.specs.Tx.{Tx, IsReady, SameBounds, seen, changed_keys, committed, counted, one_change, is_full}
 use Rattle.kfs_tx.proofs.Seeing.{ready_put, seen_put, keys_put, ready_committed, seen_committed, keys_committed}
-use Rattle.kfs_posix.specs.Book.{Book, limits_of}
+use Rattle.kfs_posix.specs.Volume.{Volume, limits_of}
 use Rattle.kfs_posix.specs.Opens.{Opens, desk_of}
 use Rattle.kfs_posix.specs.Holding.{Holds}
 use Rattle.kfs_posix.specs.Showing.{ShowsLive, IsWhole}
@@ -19,7 +19,7 @@ use Rattle.kfs_posix.proofs.Rooms.{named_fits}
 use Rattle.kfs_posix.proofs.Past.{older, newest}
 
 -- the objects of the change are put, and all else of the session is as before
-pub record IsPut (b : Book) (r : Tx) (t : Tree) (n next : ℕ) : Type 0 where
+pub record IsPut (b : Volume) (r : Tx) (t : Tree) (n next : ℕ) : Type 0 where
   pub ready : IsReady r
   pub tree : IsTree t
   pub shows : ShowsTree (seen r) t
@@ -38,7 +38,7 @@ or_false : (a b : Bool) → (a || b) ≡ false → (a ≡ false) × (b ≡ false
 or_false true b e = absurd (cc)
 or_false false b e = (refl, e)
 
-module _ (b : Book) (live : Live) (sh : ShowsLive b live) (r : Tx) (t : Tree) (n next charged chunked : ℕ) (put : IsPut b r t n next) (charge_is : charged ≡ charge t) (chunks_is : chunked ≡ chunks t) (files : Opens) (holds : Holds files t) where
+module _ (b : Volume) (live : Live) (sh : ShowsLive b live) (r : Tx) (t : Tree) (n next charged chunked : ℕ) (put : IsPut b r t n next) (charge_is : charged ≡ charge t) (chunks_is : chunked ≡ chunks t) (files : Opens) (holds : Holds files t) where
   abbrev world : World
   world = record { tree = t; desk = desk_of files }
 

@@ -45,7 +45,7 @@ use Rattle.kfs_posix.specs.declared.open_files.OpenFile.{OpenFile}
 use Rattle.kfs_posix.specs.Opens.{Opens, desk_of, open_at, closed, without, is_held}
 use Rattle.kfs_posix.specs.Closing.{remains}
 use Rattle.kfs_posix.specs.Holding.{Holds, Knows}
-use Rattle.kfs_posix.specs.Book.{Book, limits_of, cause_of}
+use Rattle.kfs_posix.specs.Volume.{Volume, limits_of, cause_of}
 use Rattle.kfs_posix.specs.Showing.{ShowsLive, GoesOn}
 use Rattle.kfs_posix.proofs.Maps.{mapped, find-map}
 use Rattle.kfs_posix.proofs.Slots.{find_without}
@@ -148,7 +148,7 @@ few_chunks : (t : Tree) → IsTree t → (n : ℕ) (node : Node) → node_of t n
 few_chunks t tree n Dir there size is = omega arith
 few_chunks t tree n (File bytes) there size is = let h = tree.lengths n bytes there in omega arith
 
-module _ (old : Book) (fd : ℕ) (up : old.down ≡ None) where
+module _ (old : Volume) (fd : ℕ) (up : old.down ≡ None) where
   abbrev pub call : Call
   call = calls.Close fd
 
@@ -220,7 +220,7 @@ module _ (old : Book) (fd : ℕ) (up : old.down ≡ None) where
         release_goes size judged mid goes =
             planned_goes old (deleted_in mid (orphan_key it.1.it.node)) (released_same old.tx it.1.it.node size mid goes) call (closed old.files fd it.0) (4 + chunks_for size) (old.charge - (2 + chunks_for size)) (old.chunks - chunks_for size) count up (planned size judged mid goes)
 
-        pub release_falls : (new : Book) (size : ℕ) (fault : DeviceFault) → release_at (inode_in (seen old.tx) it.1.it.node) ≡ Ok size → new.down ≡ Some (cause_of fault) → limits_of new ≡ limits_of old → ReleaseFault old.tx it.1.it.node size fault new.tx.machine
+        pub release_falls : (new : Volume) (size : ℕ) (fault : DeviceFault) → release_at (inode_in (seen old.tx) it.1.it.node) ≡ Ok size → new.down ≡ Some (cause_of fault) → limits_of new ≡ limits_of old → ReleaseFault old.tx it.1.it.node size fault new.tx.machine
             → Refuses old call (Device fault) new
         release_falls new size fault judged down limits (inl h) = early_falls old new call (2 + chunks_for size) fault up down limits can (λ live sh.
             let known = knows live.world.tree old.files fd it sh.holds has in
@@ -228,11 +228,11 @@ module _ (old : Book) (fd : ℕ) (up : old.down ≡ None) where
         release_falls new size fault judged down limits (inr (mid, goes, h)) =
             planned_falls old (deleted_in mid (orphan_key it.1.it.node)) (released_same old.tx it.1.it.node size mid goes) call (closed old.files fd it.0) (4 + chunks_for size) (old.charge - (2 + chunks_for size)) (old.chunks - chunks_for size) count up (planned size judged mid goes) new fault down limits can h
 
-      pub release_unread : (new : Book) (fault : DeviceFault) → new.down ≡ Some (cause_of fault) → limits_of new ≡ limits_of old → GetFault old.tx fault new.tx.machine → Refuses old call (Device fault) new
+      pub release_unread : (new : Volume) (fault : DeviceFault) → new.down ≡ Some (cause_of fault) → limits_of new ≡ limits_of old → GetFault old.tx fault new.tx.machine → Refuses old call (Device fault) new
       release_unread new fault down limits h = unread_at old new call fault up down limits can h
 
       -- what is open is there, so it is released without an error
-      pub release_never : (new : Book) (e : Errno) (reply : Reply) → release_at (inode_in (seen old.tx) it.1.it.node) ≡ Err e → GoesOn old (lines.Call call) (answers.Reply reply) new
+      pub release_never : (new : Volume) (e : Errno) (reply : Reply) → release_at (inode_in (seen old.tx) it.1.it.node) ≡ Err e → GoesOn old (lines.Call call) (answers.Reply reply) new
       release_never new e reply judged = up_goes old new call reply up (λ s live showing sh.
           let known = knows live.world.tree old.files fd it sh.holds has in
           absurd (let bad : Ok (kind_of known.node).1 ≡ Err e = sym (release_finds (seen old.tx) live.world.tree (stands_of old live sh) it.1.it.node known.node known.there) ∙ judged in cc))

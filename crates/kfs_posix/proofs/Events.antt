@@ -10,7 +10,7 @@ use Rattle.kfs_tx.specs.Tx.{Tx, age_of}
 use Rattle.kfs_core.specs.declared.fault.CoreFault.{CoreFault}
 use Rattle.kfs_core.specs.Core.{KfsState, tx_in}
 use Rattle.kfs_posix.specs.Opens.{Opens}
-use Rattle.kfs_posix.specs.Book.{Book, SessionState, state_of, book_of, running_in}
+use Rattle.kfs_posix.specs.Volume.{Volume, SessionState, state_of, volume_of, running_in}
 use Rattle.kfs_posix.specs.Answering.{Counts, KeepsCause, refusal, down_after, IsAnswerable}
 use Rattle.kfs_posix.specs.Showing.{GoesOn, IsShowing}
 use Rattle.kfs_posix.proofs.Fault.{SameMachine, refused_keeps}
@@ -19,56 +19,56 @@ use Rattle.kfs_posix.proofs.Shown.{answers_it}
 
 -- the call is an event of a life, and its reply tells which counts rose
 pub record Happens (old : SessionState) (call : Call) (reply : Reply) (k1 : KfsState) (o1 : Opens) (d1 : Option Cause) : Type 0 where
-  pub goes : GoesOn old.book (lines.Call call) (answers.Reply reply) (book_of k1 o1 d1)
-  pub counts : Counts old.book.tx.machine reply (tx_in k1).machine
-  pub keeps : KeepsCause old.book reply (book_of k1 o1 d1)
+  pub goes : GoesOn old.volume (lines.Call call) (answers.Reply reply) (volume_of k1 o1 d1)
+  pub counts : Counts old.volume.tx.machine reply (tx_in k1).machine
+  pub keeps : KeepsCause old.volume reply (volume_of k1 o1 d1)
 
 -- the same of a call that failed; the device refused nothing
 pub record Fails (old : SessionState) (call : Call) (fault : CoreFault) (reply : Reply) (k1 : KfsState) (o1 : Opens) (d1 : Option Cause) : Type 0 where
   pub happens : Happens old call reply k1 o1 d1
-  pub answerable : IsShowing old.book → IsAnswerable fault
+  pub answerable : IsShowing old.volume → IsAnswerable fault
 
 pub same_machine : (r : Tx) → SameMachine r.machine r.machine
 same_machine r = record { up = refl; cuts = refl; faults = refl }
 
 -- a reply that is neither an error nor down
 pub data IsPlain (reply : Reply) : Type 0 where
-  plain : ((old new : Machine) → (new.cuts ≡ old.cuts) × (new.faults ≡ old.faults) → Counts old reply new) → ((old new : Book) → old.down ≡ None → new.down ≡ None → KeepsCause old reply new) → IsPlain reply
+  plain : ((old new : Machine) → (new.cuts ≡ old.cuts) × (new.faults ≡ old.faults) → Counts old reply new) → ((old new : Volume) → old.down ≡ None → new.down ≡ None → KeepsCause old reply new) → IsPlain reply
 
 pub counted : (reply : Reply) → IsPlain reply → (old new : Machine) → (new.cuts ≡ old.cuts) × (new.faults ≡ old.faults) → Counts old reply new
 counted reply (plain c k) = c
 
-pub kept_up : (reply : Reply) → IsPlain reply → (old new : Book) → old.down ≡ None → new.down ≡ None → KeepsCause old reply new
+pub kept_up : (reply : Reply) → IsPlain reply → (old new : Volume) → old.down ≡ None → new.down ≡ None → KeepsCause old reply new
 kept_up reply (plain c k) = k
 
 module _ (old : SessionState) (k0 k1 : KfsState) (o o1 : Opens) (d : Option Cause) (is : state_of k0 o d ≡ old) (up : d ≡ None) (call : Call) where
   -- answered
   pub answered : (reply : Reply) → IsPlain reply → (tx : Tx) (charge chunks : ℕ) (files : Opens) → SameMachine (tx_in k0).machine tx.machine → tx_in k1 ≡ tx → k1.charge ≡ charge → k1.chunks ≡ chunks → k1.keys ≡ k0.keys → k1.pages ≡ k0.pages → o1 ≡ files
-      → GoesOn (book_of k0 o d) (lines.Call call) (answers.Reply reply) (record (book_of k0 o d) { tx = tx; charge = charge; chunks = chunks; files = files }) → Happens old call reply k1 o1 d
+      → GoesOn (volume_of k0 o d) (lines.Call call) (answers.Reply reply) (record (volume_of k0 o d) { tx = tx; charge = charge; chunks = chunks; files = files }) → Happens old call reply k1 o1 d
   answered reply is_plain tx charge chunks files same run_is charge_is chunks_is keys pages files_is goes = record {
-    goes = subst (λ (s : SessionState). GoesOn s.book (lines.Call call) (answers.Reply reply) (book_of k1 o1 d)) is
-        (subst (λ (c : Book). GoesOn (book_of k0 o d) (lines.Call call) (answers.Reply reply) c)
+    goes = subst (λ (s : SessionState). GoesOn s.volume (lines.Call call) (answers.Reply reply) (volume_of k1 o1 d)) is
+        (subst (λ (c : Volume). GoesOn (volume_of k0 o d) (lines.Call call) (answers.Reply reply) c)
         (λ i. record { tx = sym run_is i; keys = sym keys i; pages = sym pages i; charge = sym charge_is i; chunks = sym chunks_is i; files = sym files_is i; down = d }) goes);
-    counts = subst (λ (s : SessionState). Counts s.book.tx.machine reply (tx_in k1).machine) is
+    counts = subst (λ (s : SessionState). Counts s.volume.tx.machine reply (tx_in k1).machine) is
         (counted reply is_plain (tx_in k0).machine (tx_in k1).machine (ap (λ (r : Tx). r.machine.cuts) run_is ∙ same.cuts, ap (λ (r : Tx). r.machine.faults) run_is ∙ same.faults));
-    keeps = subst (λ (s : SessionState). KeepsCause s.book reply (book_of k1 o1 d)) is (kept_up reply is_plain (book_of k0 o d) (book_of k1 o1 d) up up);
+    keeps = subst (λ (s : SessionState). KeepsCause s.volume reply (volume_of k1 o1 d)) is (kept_up reply is_plain (volume_of k0 o d) (volume_of k1 o1 d) up up);
   }
 
   -- refused, or down
   pub failed : (fault : CoreFault) (reply : Reply) (d1 : Option Cause) → reply ≡ refusal fault → d1 ≡ down_after d fault → k1.charge ≡ k0.charge → k1.chunks ≡ k0.chunks → k1.keys ≡ k0.keys → k1.pages ≡ k0.pages → o1 ≡ o
       → Counts (tx_in k0).machine (refusal fault) (tx_in k1).machine
-      → Refuses (book_of k0 o d) call fault (record (book_of k0 o d) { tx = tx_in k1; down = down_after d fault }) → Fails old call fault reply k1 o1 d1
+      → Refuses (volume_of k0 o d) call fault (record (volume_of k0 o d) { tx = tx_in k1; down = down_after d fault }) → Fails old call fault reply k1 o1 d1
   failed fault reply d1 reply_is down charge_is chunks_is keys pages files_is counts refuses = record {
     happens = record {
-      goes = subst (λ (s : SessionState). GoesOn s.book (lines.Call call) (answers.Reply reply) (book_of k1 o1 d1)) is
-          (subst (λ r. GoesOn (book_of k0 o d) (lines.Call call) (answers.Reply r) (book_of k1 o1 d1)) (sym reply_is)
-          (subst (λ (c : Book). GoesOn (book_of k0 o d) (lines.Call call) (answers.Reply (refusal fault)) c)
+      goes = subst (λ (s : SessionState). GoesOn s.volume (lines.Call call) (answers.Reply reply) (volume_of k1 o1 d1)) is
+          (subst (λ r. GoesOn (volume_of k0 o d) (lines.Call call) (answers.Reply r) (volume_of k1 o1 d1)) (sym reply_is)
+          (subst (λ (c : Volume). GoesOn (volume_of k0 o d) (lines.Call call) (answers.Reply (refusal fault)) c)
           (λ i. record { tx = tx_in k1; keys = sym keys i; pages = sym pages i; charge = sym charge_is i; chunks = sym chunks_is i; files = sym files_is i; down = sym down i }) refuses.goes));
-      counts = subst (λ (s : SessionState). Counts s.book.tx.machine reply (tx_in k1).machine) is (subst (λ r. Counts (tx_in k0).machine r (tx_in k1).machine) (sym reply_is) counts);
-      keeps = subst (λ (s : SessionState). KeepsCause s.book reply (book_of k1 o1 d1)) is
-          (subst (λ r. KeepsCause (book_of k0 o d) r (book_of k1 o1 d1)) (sym reply_is) (refused_keeps (book_of k0 o d) (book_of k1 o1 d1) fault up down));
+      counts = subst (λ (s : SessionState). Counts s.volume.tx.machine reply (tx_in k1).machine) is (subst (λ r. Counts (tx_in k0).machine r (tx_in k1).machine) (sym reply_is) counts);
+      keeps = subst (λ (s : SessionState). KeepsCause s.volume reply (volume_of k1 o1 d1)) is
+          (subst (λ r. KeepsCause (volume_of k0 o d) r (volume_of k1 o1 d1)) (sym reply_is) (refused_keeps (volume_of k0 o d) (volume_of k1 o1 d1) fault up down));
     };
-    answerable = answers_it old k0 o d is up call fault (record (book_of k0 o d) { tx = tx_in k1; down = down_after d fault }) refuses;
+    answerable = answers_it old k0 o d is up call fault (record (volume_of k0 o d) { tx = tx_in k1; down = down_after d fault }) refuses;
   }
 
 -- ---- the next numbers are low enough

@@ -21,7 +21,7 @@ use Rattle.kfs_core.specs.Flat.{Where}
 use Rattle.kfs_core.specs.Gives.{Fails, LeavesAtFault, CommitFails}
 use Rattle.kfs_core.specs.Making.{AddFault, AddFails, added, with_entry, parent_of}
 use Rattle.kfs_posix.specs.Opens.{Opens}
-use Rattle.kfs_posix.specs.Book.{Book, SessionState, state_of, book_of, cause_of}
+use Rattle.kfs_posix.specs.Volume.{Volume, SessionState, state_of, volume_of, cause_of}
 use Rattle.kfs_posix.specs.Answering.{Counts, KeepsCause, refusal, down_after}
 use Rattle.kfs_posix.specs.Showing.{GoesOn}
 use Rattle.kfs_posix.proofs.Calls.{read_falls}
@@ -75,7 +75,7 @@ add_counts old new kind judged (Device f) up (inr h) = caused_counts old.machine
 
 -- ---- causes
 
-pub refused_keeps : (old new : Book) (fault : CoreFault) → old.down ≡ None → new.down ≡ down_after old.down fault → KeepsCause old (refusal fault) new
+pub refused_keeps : (old new : Volume) (fault : CoreFault) → old.down ≡ None → new.down ≡ down_after old.down fault → KeepsCause old (refusal fault) new
 refused_keeps old new (No e) up h = (up, h ∙ up)
 refused_keeps old new (Device f) up h = (up, h)
 
@@ -94,15 +94,15 @@ added_same r kind parent name = by (counted (with_entry r kind parent name) 4 (r
 
 -- ---- lives
 
-book_is : (old : SessionState) (kfs : KfsState) (o : Opens) (d : Option Cause) → state_of kfs o d ≡ old → book_of kfs o d ≡ old.book
-book_is old kfs o d e = ap (λ (s : SessionState). s.book) e
+volume_is : (old : SessionState) (kfs : KfsState) (o : Opens) (d : Option Cause) → state_of kfs o d ≡ old → volume_of kfs o d ≡ old.volume
+volume_is old kfs o d e = ap (λ (s : SessionState). s.volume) e
 
 -- the running transaction alone may have changed
-pub stays_book : (k0 k1 : KfsState) (o : Opens) (d : Option Cause) → Stays k0 k1 → book_of k1 o d ≡ record (book_of k0 o d) { tx = tx_in k1 }
-stays_book k0 k1 o d e = ap (λ (k : KfsState). book_of k o d) e
+pub stays_volume : (k0 k1 : KfsState) (o : Opens) (d : Option Cause) → Stays k0 k1 → volume_of k1 o d ≡ record (volume_of k0 o d) { tx = tx_in k1 }
+stays_volume k0 k1 o d e = ap (λ (k : KfsState). volume_of k o d) e
 
 -- answered by an error or the call's fault, where it only reads
-pub read_refused : (old : Book) (call : Call) (def : Result Reply Errno) (fault : CoreFault) (tx : Tx) → old.down ≡ None → Fails fault def → LeavesAtFault old.tx fault tx
+pub read_refused : (old : Volume) (call : Call) (def : Result Reply Errno) (fault : CoreFault) (tx : Tx) → old.down ≡ None → Fails fault def → LeavesAtFault old.tx fault tx
     → ((w : World) → can_fail w call Eio ≡ true) → ((w : World) → can_fail w call NoMem ≡ true) → ((e : Errno) → def ≡ Err e → GoesOn old (lines.Call call) (answers.Reply (replies.Err e)) old)
     → Refuses old call fault (record old { tx = tx; down = down_after old.down fault })
 read_refused old call def (No e) tx up fails leaves eio nomem goes = errs old (record old { tx = tx }) call e (subst (λ r. GoesOn old (lines.Call call) (answers.Reply (replies.Err e)) (record old { tx = r })) (sym leaves) (goes e fails))
@@ -110,14 +110,14 @@ read_refused old call def (Device f) tx up fails leaves eio nomem goes = read_fa
 
 -- ---- the same of a session, by what it was made of
 
-pub counts_by : (old : SessionState) (k0 : KfsState) (o : Opens) (d : Option Cause) (reply : Reply) (fault : CoreFault) (new : Machine) → state_of k0 o d ≡ old → reply ≡ refusal fault → Counts (tx_in k0).machine (refusal fault) new → Counts old.book.tx.machine reply new
-counts_by old k0 o d reply fault new is reply_is h = subst (λ (s : SessionState). Counts s.book.tx.machine reply new) is (subst (λ r. Counts (tx_in k0).machine r new) (sym reply_is) h)
+pub counts_by : (old : SessionState) (k0 : KfsState) (o : Opens) (d : Option Cause) (reply : Reply) (fault : CoreFault) (new : Machine) → state_of k0 o d ≡ old → reply ≡ refusal fault → Counts (tx_in k0).machine (refusal fault) new → Counts old.volume.tx.machine reply new
+counts_by old k0 o d reply fault new is reply_is h = subst (λ (s : SessionState). Counts s.volume.tx.machine reply new) is (subst (λ r. Counts (tx_in k0).machine r new) (sym reply_is) h)
 
-pub keeps_by : (old : SessionState) (k0 k1 : KfsState) (o : Opens) (d d1 : Option Cause) (reply : Reply) (fault : CoreFault) → state_of k0 o d ≡ old → d ≡ None → reply ≡ refusal fault → d1 ≡ down_after d fault → KeepsCause old.book reply (book_of k1 o d1)
-keeps_by old k0 k1 o d d1 reply fault is up reply_is down = subst (λ (s : SessionState). KeepsCause s.book reply (book_of k1 o d1)) is (subst (λ r. KeepsCause (book_of k0 o d) r (book_of k1 o d1)) (sym reply_is) (refused_keeps (book_of k0 o d) (book_of k1 o d1) fault up down))
+pub keeps_by : (old : SessionState) (k0 k1 : KfsState) (o : Opens) (d d1 : Option Cause) (reply : Reply) (fault : CoreFault) → state_of k0 o d ≡ old → d ≡ None → reply ≡ refusal fault → d1 ≡ down_after d fault → KeepsCause old.volume reply (volume_of k1 o d1)
+keeps_by old k0 k1 o d d1 reply fault is up reply_is down = subst (λ (s : SessionState). KeepsCause s.volume reply (volume_of k1 o d1)) is (subst (λ r. KeepsCause (volume_of k0 o d) r (volume_of k1 o d1)) (sym reply_is) (refused_keeps (volume_of k0 o d) (volume_of k1 o d1) fault up down))
 
-pub none_kept : (old : SessionState) (k0 : KfsState) (o : Opens) (d : Option Cause) → state_of k0 o d ≡ old → d ≡ None → (old.book.down ≡ None) × (d ≡ None)
-none_kept old k0 o d is up = (sym (ap (λ (s : SessionState). s.book.down) is) ∙ up, up)
+pub none_kept : (old : SessionState) (k0 : KfsState) (o : Opens) (d : Option Cause) → state_of k0 o d ≡ old → d ≡ None → (old.volume.down ≡ None) × (d ≡ None)
+none_kept old k0 o d is up = (sym (ap (λ (s : SessionState). s.volume.down) is) ∙ up, up)
 
-pub counts_same : (old : SessionState) (k0 : KfsState) (o : Opens) (d : Option Cause) (new : Machine) → state_of k0 o d ≡ old → new.cuts ≡ (tx_in k0).machine.cuts → new.faults ≡ (tx_in k0).machine.faults → (new.cuts ≡ old.book.tx.machine.cuts) × (new.faults ≡ old.book.tx.machine.faults)
-counts_same old k0 o d new is cuts faults = (cuts ∙ ap (λ (s : SessionState). s.book.tx.machine.cuts) is, faults ∙ ap (λ (s : SessionState). s.book.tx.machine.faults) is)
+pub counts_same : (old : SessionState) (k0 : KfsState) (o : Opens) (d : Option Cause) (new : Machine) → state_of k0 o d ≡ old → new.cuts ≡ (tx_in k0).machine.cuts → new.faults ≡ (tx_in k0).machine.faults → (new.cuts ≡ old.volume.tx.machine.cuts) × (new.faults ≡ old.volume.tx.machine.faults)
+counts_same old k0 o d new is cuts faults = (cuts ∙ ap (λ (s : SessionState). s.volume.tx.machine.cuts) is, faults ∙ ap (λ (s : SessionState). s.volume.tx.machine.faults) is)

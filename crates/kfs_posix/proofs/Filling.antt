@@ -19,7 +19,7 @@ use Rattle.kfs_model.specs.Tree.{Limits}
 use Rattle.kfs_model.specs.Desk.{opened}
 use Rattle.kfs_model.specs.Step.{World, After, settled, step, or_else, writes, bytes_of, greatest_count, is_negative, natural, leaves}
 use Rattle.kfs_model.specs.Life.{State, Now, Up, Down, EventAt, with_now, live_after, is_armed, disarmed, fallen, can_fail}
-use Rattle.kfs_posix.specs.Book.{Book, limits_of}
+use Rattle.kfs_posix.specs.Volume.{Volume, limits_of}
 use Rattle.kfs_posix.specs.Showing.{GoesOn}
 
 -- ---- writes of too many bytes are refused alike
@@ -75,14 +75,14 @@ filled_same count byte = elim (cases_lt count 1048577) [
     long : (c : ℕ) → 1048576 < c → nat_lt greatest_count (length (replicate c byte)) ≡ true
     long c gt = let e : nat_lt greatest_count c ≡ true = grind (arith, nat_tests) in ap (nat_lt greatest_count) (length-replicate c byte) ∙ e
 
-pub filled_goes : (old new : Book) (fd count byte : ℕ) (bytes : List ℕ) (reply : Reply) → bytes ≡ replicate (min count 1048577) byte → GoesOn old (lines.Call (calls.Write fd (Plain bytes))) (answers.Reply reply) new → GoesOn old (lines.Call (calls.Write fd (Fill count byte))) (answers.Reply reply) new
+pub filled_goes : (old new : Volume) (fd count byte : ℕ) (bytes : List ℕ) (reply : Reply) → bytes ≡ replicate (min count 1048577) byte → GoesOn old (lines.Call (calls.Write fd (Plain bytes))) (answers.Reply reply) new → GoesOn old (lines.Call (calls.Write fd (Fill count byte))) (answers.Reply reply) new
 filled_goes old new fd count byte bytes reply is goes = record {
   each = λ s shows.
       let e = goes.each s shows in
       (e.0, write_event (limits_of old) s s.now fd (Plain bytes) (Fill count byte) reply e.0 (subst (λ x. SameBytes x (replicate count byte)) (sym is) (filled_same count byte)) e.1, e.2, e.3);
 }
 
-pub pfilled_goes : (old new : Book) (fd count byte : ℕ) (offset : ℤ) (bytes : List ℕ) (reply : Reply) → bytes ≡ replicate (min count 1048577) byte → GoesOn old (lines.Call (calls.Pwrite fd (Plain bytes) offset)) (answers.Reply reply) new
+pub pfilled_goes : (old new : Volume) (fd count byte : ℕ) (offset : ℤ) (bytes : List ℕ) (reply : Reply) → bytes ≡ replicate (min count 1048577) byte → GoesOn old (lines.Call (calls.Pwrite fd (Plain bytes) offset)) (answers.Reply reply) new
     → GoesOn old (lines.Call (calls.Pwrite fd (Fill count byte) offset)) (answers.Reply reply) new
 pfilled_goes old new fd count byte offset bytes reply is goes = record {
   each = λ s shows.

@@ -25,7 +25,7 @@ use Rattle.kfs_tx.specs.Tx.{SameBounds, HasCause, Fallen, is_full}
 use Rattle.kfs_core.specs.declared.fault.CoreFault.{CoreFault}
 use Rattle.kfs_core.specs.declared.fault.CoreFault.TheVariants.{No, Device}
 use Rattle.kfs_core.proofs.Outside.{outside_of}
-use Rattle.kfs_posix.specs.Book.{Book, limits_of, cause_of}
+use Rattle.kfs_posix.specs.Volume.{Volume, limits_of, cause_of}
 use Rattle.kfs_posix.specs.declared.open_files.OpenFile.{OpenFile}
 use Rattle.kfs_posix.specs.Opens.{Opens, desk_of}
 use Rattle.kfs_posix.specs.Holding.{Holds}
@@ -36,10 +36,10 @@ use Rattle.kfs_posix.proofs.Maps.{find-map}
 use Rattle.kfs_posix.proofs.Past.{older, newest}
 
 -- an up session shows an up state alone
-abbrev Goes : Book → State → Now → Call → Reply → Book → Type 0
+abbrev Goes : Volume → State → Now → Call → Reply → Volume → Type 0
 Goes old s now call reply new = (t : State) × EventAt (limits_of old) s now (lines.Call call) (answers.Reply reply) t × ShowsNow new t.now × (ShowsState old s → ShowsState new t)
 
-pub up_goes : (old new : Book) (call : Call) (reply : Reply) → old.down ≡ None → ((s : State) (live : Live) → Fits old s → ShowsLive old live → Goes old s (Up live) call reply new) → GoesOn old (lines.Call call) (answers.Reply reply) new
+pub up_goes : (old new : Volume) (call : Call) (reply : Reply) → old.down ≡ None → ((s : State) (live : Live) → Fits old s → ShowsLive old live → Goes old s (Up live) call reply new) → GoesOn old (lines.Call call) (answers.Reply reply) new
 up_goes old new call reply up h = record { each = λ s fits. by s fits s.now fits.now }
   where
     by : (s : State) → Fits old s → (now : Now) → ShowsNow old now → Goes old s now call reply new
@@ -47,7 +47,7 @@ up_goes old new call reply up h = record { each = λ s fits. by s fits s.now fit
     by s fits (Down past may) sh = absurd (let e : None ≡ Some sh.cause = sym up ∙ sh.down in cc)
 
 -- a session that is down answers so
-pub down_goes : (old : Book) (call : Call) → is_some old.down ≡ true → GoesOn old (lines.Call call) (answers.Reply replies.Off) old
+pub down_goes : (old : Volume) (call : Call) → is_some old.down ≡ true → GoesOn old (lines.Call call) (answers.Reply replies.Off) old
 down_goes old call down = record { each = λ s fits. by s fits s.now fits.now }
   where
     by : (s : State) → Fits old s → (now : Now) → ShowsNow old now → Goes old s now call replies.Off old
@@ -63,17 +63,17 @@ find_over : {A : Type 0} (d : ℕ) (es : List (ℕ × A)) → over es ≤ d → 
 find_over d [] le = refl
 find_over d (e ∷ es) le = ap (λ b. cond b (Some e.1) (find nat_cmp d es)) (number_apart d e.0 (omega arith)) ∙ find_over d es (omega arith)
 
-abbrev pub spare : Book → ℕ
+abbrev pub spare : Volume → ℕ
 spare b = over b.files.files
 
-pub spare_free : (b : Book) → find nat_cmp (spare b) b.files.files ≡ None
+pub spare_free : (b : Volume) → find nat_cmp (spare b) b.files.files ≡ None
 spare_free b = find_over (spare b) b.files.files (let e : spare b ≤ spare b = omega arith in e)
 
-free : (b : Book) (live : Live) (d : ℕ) → ShowsLive b live → find nat_cmp d b.files.files ≡ None → IsFree live.world d
+free : (b : Volume) (live : Live) (d : ℕ) → ShowsLive b live → find nat_cmp d b.files.files ≡ None → IsFree live.world d
 free b live d sh none = ap (λ (k : Desk). is_some (find nat_cmp d k.descriptions)) sh.desk ∙ ap is_some (find-map (λ (f : OpenFile). f.it) d b.files.files) ∙ ap (λ o. is_some (option_map (λ (f : OpenFile). f.it) o)) none
 
 -- answered: the live state that follows is shown
-pub answered : (old new : Book) (s : State) (live : Live) (call : Call) (reply : Reply) (d : ℕ) → find nat_cmp d old.files.files ≡ None → ShowsLive old live → reply ≡ (step (limits_of old) d live.world call).reply
+pub answered : (old new : Volume) (s : State) (live : Live) (call : Call) (reply : Reply) (d : ℕ) → find nat_cmp d old.files.files ≡ None → ShowsLive old live → reply ≡ (step (limits_of old) d live.world call).reply
     → ShowsLive new (live_after live call (step (limits_of old) d live.world call)) → new.tx.machine.cuts ≡ old.tx.machine.cuts → new.tx.machine.faults ≡ old.tx.machine.faults → SameBounds old.tx.machine new.tx.machine
     → Goes old s (Up live) call reply new
 answered old new s live call reply d none sh is shows cuts faults bounds = (
@@ -92,7 +92,7 @@ answered old new s live call reply d none sh is shows cuts faults bounds = (
 )
 
 -- a call that changes nothing
-pub idle_goes : (old : Book) (call : Call) (reply : Reply) → old.down ≡ None → ((w x : World) → weight w call (record { world = x; reply = reply }) ≡ None) → commits call reply ≡ false
+pub idle_goes : (old : Volume) (call : Call) (reply : Reply) → old.down ≡ None → ((w x : World) → weight w call (record { world = x; reply = reply }) ≡ None) → commits call reply ≡ false
     → ((live : Live) → ShowsLive old live → step (limits_of old) (spare old) live.world call ≡ record { world = live.world; reply = reply }) → GoesOn old (lines.Call call) (answers.Reply reply) old
 idle_goes old call reply up none quiet did = up_goes old old call reply up (λ s live fits sh.
     let after : After = record { world = live.world; reply = reply } in
@@ -104,7 +104,7 @@ idle_goes old call reply up none quiet did = up_goes old old call reply up (λ s
     answered old old s live call reply (spare old) (spare_free old) sh (sym (ap (λ (a : After). a.reply) is)) (subst (ShowsLive old) (sym same) sh) refl refl (record { most_cuts = refl; most_faults = refl; room_keys = refl; room_pages = refl }))
 
 -- a change; d is the number of the description that it makes
-pub change_goes_at : (old new : Book) (call : Call) (reply : Reply) (n d : ℕ) → find nat_cmp d old.files.files ≡ None → old.down ≡ None
+pub change_goes_at : (old new : Volume) (call : Call) (reply : Reply) (n d : ℕ) → find nat_cmp d old.files.files ≡ None → old.down ≡ None
     → new.tx.machine.cuts ≡ old.tx.machine.cuts → new.tx.machine.faults ≡ old.tx.machine.faults → SameBounds old.tx.machine new.tx.machine
     → ((live : Live) → ShowsLive old live → (w : World) × (step (limits_of old) d live.world call ≡ record { world = w; reply = reply }) × (weight live.world call (record { world = w; reply = reply }) ≡ Some n) × ShowsLive new (live_with live w (Some n) (is_full (old.tx.since + 1) (old.tx.weight + n))))
     → GoesOn old (lines.Call call) (answers.Reply reply) new
@@ -116,7 +116,7 @@ change_goes_at old new call reply n d none up cuts faults bounds did = up_goes o
     ∙ (λ i. live_with live it.0 (Some n) (is_full (sym sh.changes i + 1) (sym sh.weight i + n))) in
     answered old new s live call reply d none sh (sym (ap (λ (a : After). a.reply) it.1)) (subst (ShowsLive new) (sym same) it.3) cuts faults bounds)
 
-pub change_goes : (old new : Book) (call : Call) (reply : Reply) (n : ℕ) → old.down ≡ None → ((w x : World) → weight w call (record { world = x; reply = reply }) ≡ Some n)
+pub change_goes : (old new : Volume) (call : Call) (reply : Reply) (n : ℕ) → old.down ≡ None → ((w x : World) → weight w call (record { world = x; reply = reply }) ≡ Some n)
     → new.tx.machine.cuts ≡ old.tx.machine.cuts → new.tx.machine.faults ≡ old.tx.machine.faults → SameBounds old.tx.machine new.tx.machine
     → ((live : Live) → ShowsLive old live → (w : World) × (step (limits_of old) (spare old) live.world call ≡ record { world = w; reply = reply }) × ShowsLive new (live_with live w (Some n) (is_full (old.tx.since + 1) (old.tx.weight + n))))
     → GoesOn old (lines.Call call) (answers.Reply reply) new
@@ -124,7 +124,7 @@ change_goes old new call reply n up weighs cuts faults bounds did =
     change_goes_at old new call reply n (spare old) (spare_free old) up cuts faults bounds (λ live sh. let it = did live sh in (it.0, it.1, weighs live.world it.0, it.2))
 
 -- a call that changes nothing but the open files; d is the number of the description that it makes
-pub turn_goes : (old : Book) (files : Opens) (call : Call) (reply : Reply) (d : ℕ) → find nat_cmp d old.files.files ≡ None → old.down ≡ None → commits call reply ≡ false
+pub turn_goes : (old : Volume) (files : Opens) (call : Call) (reply : Reply) (d : ℕ) → find nat_cmp d old.files.files ≡ None → old.down ≡ None → commits call reply ≡ false
     → ((live : Live) → ShowsLive old live → (step (limits_of old) d live.world call ≡ record { world = record { tree = live.world.tree; desk = desk_of files }; reply = reply })
     × (weight live.world call (record { world = record { tree = live.world.tree; desk = desk_of files }; reply = reply }) ≡ None) × Holds files live.world.tree)
     → GoesOn old (lines.Call call) (answers.Reply reply) (record old { files = files })
@@ -170,7 +170,7 @@ old_tree : (past : Past) (t : Tree) (change : Option ℕ) (k : ℕ) → k ≤ pa
 old_tree past t None k le = refl
 old_tree past t (Some n) k le = older past t k le
 
-stood_down : (new : Book) (live : Live) (call : Call) (after : After) (cause : Cause) (stands : Objects) → new.down ≡ Some cause → new.tx.machine.stable ≡ stands → live.mark ≤ live.past.count → new.keys ≡ new.tx.machine.room_keys → new.pages ≡ new.tx.machine.room_pages → Stood live call after (limits_of new) stands → ShowsNow new (fallen live call after)
+stood_down : (new : Volume) (live : Live) (call : Call) (after : After) (cause : Cause) (stands : Objects) → new.down ≡ Some cause → new.tx.machine.stable ≡ stands → live.mark ≤ live.past.count → new.keys ≡ new.tx.machine.room_keys → new.pages ≡ new.tx.machine.room_pages → Stood live call after (limits_of new) stands → ShowsNow new (fallen live call after)
 stood_down new live call after cause stands down is behind keys pages (as_before shows) = record {
   cause = cause;
   down = down;
@@ -222,23 +222,23 @@ both_true : (a b : Bool) → a ≡ true → b ≡ true → (a && b) ≡ true
 both_true a b e f = λ i. (e i && f i)
 
 -- why it goes down, and what stands then
-pub record Fell (old new : Book) (live : Live) (call : Call) (fault : DeviceFault) : Type 0 where
+pub record Fell (old new : Volume) (live : Live) (call : Call) (fault : DeviceFault) : Type 0 where
   pub stands : Objects
   pub fallen : Fallen old.tx.machine fault stands new.tx.machine
   pub stood : Stood live call (step (limits_of old) (spare old) live.world call) (limits_of old) stands
   pub can : (cause : Cause) → cause ≡ cause_of fault → can_fail live.world call cause ≡ true
 
 -- the call answers a fault, and goes down by it where it is the device's; the device refused nothing
-pub record Refuses (old : Book) (call : Call) (fault : CoreFault) (new : Book) : Type 0 where
+pub record Refuses (old : Volume) (call : Call) (fault : CoreFault) (new : Volume) : Type 0 where
   pub goes : GoesOn old (lines.Call call) (answers.Reply (refusal fault)) new
   pub answerable : (live : Live) → ShowsLive old live → IsAnswerable fault
 
 -- an error of the call is no refusal of the device
-pub errs : (old new : Book) (call : Call) (e : Errno) → GoesOn old (lines.Call call) (answers.Reply (replies.Err e)) new → Refuses old call (No e) new
+pub errs : (old new : Volume) (call : Call) (e : Errno) → GoesOn old (lines.Call call) (answers.Reply (replies.Err e)) new → Refuses old call (No e) new
 errs old new call e goes = record { goes = goes; answerable = λ live sh. tt }
 
 -- the session goes down in the call
-pub fall_goes : (old new : Book) (call : Call) (fault : DeviceFault) → old.down ≡ None → new.down ≡ Some (cause_of fault) → limits_of new ≡ limits_of old
+pub fall_goes : (old new : Volume) (call : Call) (fault : DeviceFault) → old.down ≡ None → new.down ≡ Some (cause_of fault) → limits_of new ≡ limits_of old
     → ((live : Live) → ShowsLive old live → Fell old new live call fault)
     → Refuses old call (Device fault) new
 fall_goes old new call fault up down same fell = record { goes = goes; answerable = λ live sh. outside_of old.tx.machine new.tx.machine fault (fell live sh).fallen.cause }

@@ -21,7 +21,7 @@ use Rattle.kfs_core.specs.Flat.{Where, at_root, walk_in, place_in}
 use Rattle.kfs_core.specs.Making.{parent_of, made, MakeFault}
 use Rattle.kfs_core.proofs.Ways.{IsSpot}
 use Rattle.kfs_core.proofs.Judges.{place_same, SamePlace}
-use Rattle.kfs_posix.specs.Book.{Book, limits_of, cause_of}
+use Rattle.kfs_posix.specs.Volume.{Volume, limits_of, cause_of}
 use Rattle.kfs_posix.proofs.Held.{new_holds}
 use Rattle.kfs_posix.proofs.Adding.{Adds, add_goes, add_falls}
 use Rattle.kfs_core.proofs.Adding.{free_place}
@@ -42,7 +42,7 @@ place_fits m keys charged path w e =
     by v true f c = absurd (cc)
     by v false f c = grind (arith, nat_tests)
 
-module _ (old : Book) (path : List ℕ) where
+module _ (old : Volume) (path : List ℕ) where
   judged_ok : (live : Live) (sh : ShowsLive old live) (r : Result Place Errno) (s : Result Where Errno) (w : Where) → SamePlace (seen old.tx) live.world.tree (stands_of old live sh) r s → s ≡ Ok w → (place : Place) × (r ≡ Ok place) × IsSpot live.world.tree place w × (w.node ≡ None)
   judged_ok live sh (Ok place) (Ok v) w h e = let same : v ≡ w = cc in (place, refl, subst (IsSpot live.world.tree place) same h.0, ap (λ (x : Where). x.node) (sym same) ∙ h.1)
   judged_ok live sh (Ok place) (Err f) w h e = absurd h
@@ -81,7 +81,7 @@ module _ (old : Book) (path : List ℕ) where
   mkdir_refused e up is = idle_goes old (calls.Mkdir path) (replies.Err e) up (λ w x. refl) refl (λ live sh.
       ap (λ (r : Result Place Errno). settled live.world (r >>= λ place. leaves live.world (with_new live.world.tree place Dir) replies.Done)) (judged_err live sh (mkdir_at (limits_of old) live.world.tree path) (place_in (seen old.tx) old.keys old.charge path) e (same_place live sh) is))
 
-  pub mkdir_unread : (new : Book) (fault : DeviceFault) → old.down ≡ None → new.down ≡ Some (cause_of fault) → limits_of new ≡ limits_of old → GetFault old.tx fault new.tx.machine → Refuses old (calls.Mkdir path) (Device fault) new
+  pub mkdir_unread : (new : Volume) (fault : DeviceFault) → old.down ≡ None → new.down ≡ Some (cause_of fault) → limits_of new ≡ limits_of old → GetFault old.tx fault new.tx.machine → Refuses old (calls.Mkdir path) (Device fault) new
   mkdir_unread new fault up down same h = fall_goes old new (calls.Mkdir path) fault up down same (λ live sh. record {
     stands = old.tx.machine.stable;
     fallen = get_falls old.tx fault new.tx.machine sh.light.ready h;
@@ -89,7 +89,7 @@ module _ (old : Book) (path : List ℕ) where
     can = λ cause e. any_cause live.world (calls.Mkdir path) refl refl refl cause;
   })
 
-  pub mkdir_falls : (new : Book) (w : Where) (fault : DeviceFault) → old.down ≡ None → new.down ≡ Some (cause_of fault) → limits_of new ≡ limits_of old → old.tx.next + 1 < 2 ^ 63 → old.tx.changes + 1 < 2 ^ 63 → old.charge + 2 ≤ old.keys → place_in (seen old.tx) old.keys old.charge path ≡ Ok w
+  pub mkdir_falls : (new : Volume) (w : Where) (fault : DeviceFault) → old.down ≡ None → new.down ≡ Some (cause_of fault) → limits_of new ≡ limits_of old → old.tx.next + 1 < 2 ^ 63 → old.tx.changes + 1 < 2 ^ 63 → old.charge + 2 ≤ old.keys → place_in (seen old.tx) old.keys old.charge path ≡ Ok w
       → MakeFault old.tx (parent_of w) w.name fault new.tx.machine → Refuses old (calls.Mkdir path) (Device fault) new
   mkdir_falls new w fault up down same low count fits is h =
       add_falls old 1 Dir fresh_dir refl refl w low count new (calls.Mkdir path) replies.Done old.files fault up down same (λ world cause. any_cause world (calls.Mkdir path) refl refl refl cause) (adds w fits is) h

@@ -29,7 +29,7 @@ use Rattle.kfs_core.specs.Stands.{Stands}
 use Rattle.kfs_core.specs.Starting.{Started}
 use Rattle.kfs_core.proofs.Charged.{charge_same, chunks_same}
 use Rattle.kfs_posix.specs.Opens.{Opens, no_files}
-use Rattle.kfs_posix.specs.Book.{book_of, Book}
+use Rattle.kfs_posix.specs.Volume.{volume_of, Volume}
 use Rattle.kfs_posix.specs.Showing.{ShowsLive, IsSaved, IsWhole, IsShowing}
 use Rattle.kfs_posix.specs.Mounting.{limits_in, IsStored, Mounts}
 use Rattle.kfs_posix.proofs.Held.{nothing_holds}
@@ -132,11 +132,11 @@ module _ (old : Machine) (up : old.up ≡ true) (idle : old.pending ≡ none_ope
       )
 
   -- a mount that began so
-  pub mounted : (kfs : KfsState) (o : Opens) → o ≡ no_files → old.room_keys ≤ 68544 → Started old kfs → Mounts old (book_of kfs o None)
+  pub mounted : (kfs : KfsState) (o : Opens) → o ≡ no_files → old.room_keys ≤ 68544 → Started old kfs → Mounts old (volume_of kfs o None)
   mounted kfs o none few h =
       let r = tx_in kfs in
       let now = r.machine.stable in
-      subst (λ x. Mounts old (book_of kfs x None)) (sym none)
+      subst (λ x. Mounts old (volume_of kfs x None)) (sym none)
       (subst (λ (x : Tx). Mounts old (record { tx = x; keys = kfs.keys; pages = kfs.pages; charge = kfs.charge; chunks = kfs.chunks; files = no_files; down = None })) (sym h.tx)
       (record { each = shows_live now h.cleared r.changes r.next kfs.keys kfs.pages kfs.charge kfs.chunks h.keys h.pages (let e = h.keys in omega arith) h.head h.charge h.chunks }))
 
@@ -158,7 +158,7 @@ lone_there : (t : Tree) (k : ℕ) → tree_at (lone t k) k ≡ t
 lone_there t k = let e : k - k ≡ 0 = omega arith in ap (λ i. unwrap_or (slice_get (t ∷ []) i) root_alone) e
 
 -- what isn't damaged stands for a tree, which is mounted
-pub mount_showing : (old : Machine) (new : Book) → IsHeld old.stable → IsClear (room_in old) (heard old.stable) → Mounts old new → IsShowing new
+pub mount_showing : (old : Machine) (new : Volume) → IsHeld old.stable → IsClear (room_in old) (heard old.stable) → Mounts old new → IsShowing new
 mount_showing old new held clear mounts none =
     let here = subst (IsClear (room_in old)) (all_heard old.stable (held_nameable old.stable held)) clear in
     let it = clear_stands (room_in old) old.stable held here in

@@ -11,7 +11,7 @@ use Rattle.kfs_core.specs.Core.{KfsState, tx_in}
 use Rattle.kfs_core.specs.Room.{space_in}
 use Rattle.kfs_core.proofs.Outside.{outside_of}
 use Rattle.kfs_posix.specs.Opens.{Opens}
-use Rattle.kfs_posix.specs.Book.{book_of, state_of}
+use Rattle.kfs_posix.specs.Volume.{volume_of, state_of}
 use Rattle.kfs_posix.specs.Answering.{refusal, down_after}
 use Rattle.kfs_posix.specs.Showing.{IsShowing}
 use Rattle.kfs_posix.specs.Refusals as Refusals
@@ -31,7 +31,7 @@ use Rattle.kfs_posix.proofs.ResizeEvents.{ftruncate_resizing, truncate_resizing}
 use Rattle.kfs_posix.proofs.UnnameGoes.{rmdir_removal, unlink_removal}
 
 -- it shows some live state
-shown : (k : KfsState) (o : Opens) (live : Live) → Serves k o live → IsShowing (book_of k o None)
+shown : (k : KfsState) (o : Opens) (live : Live) → Serves k o live → IsShowing (volume_of k o None)
 shown k o live serves none = ∣ (live, serves.shows) ∣₁
 
 -- all but the running transaction as it was
@@ -66,19 +66,19 @@ pwrite fd given offset k new o files live fault serves h = (pwrite_failed (state
 
 pub truncate : Refusals.TruncateIsNeverRefused
 truncate path size k new o files live fault serves h =
-    (resize_failed (state_of k o None) k new o files None refl refl serves.shows.light.ready.up serves.age (calls.Truncate path size) (truncate_by (seen (tx_in k)) (space_in k) path size) (natural size) (truncate_resizing (book_of k o None) path size) fault (refusal fault) (down_after None fault) h refl refl).answerable (shown k o live serves)
+    (resize_failed (state_of k o None) k new o files None refl refl serves.shows.light.ready.up serves.age (calls.Truncate path size) (truncate_by (seen (tx_in k)) (space_in k) path size) (natural size) (truncate_resizing (volume_of k o None) path size) fault (refusal fault) (down_after None fault) h refl refl).answerable (shown k o live serves)
 
 pub ftruncate : Refusals.FtruncateIsNeverRefused
 ftruncate fd size k new o files live fault serves h =
-    (resize_failed (state_of k o None) k new o files None refl refl serves.shows.light.ready.up serves.age (calls.Ftruncate fd size) (ftruncate_in (seen (tx_in k)) (space_in k) o fd size) (natural size) (ftruncate_resizing (book_of k o None) fd size) fault (refusal fault) (down_after None fault) h refl refl).answerable (shown k o live serves)
+    (resize_failed (state_of k o None) k new o files None refl refl serves.shows.light.ready.up serves.age (calls.Ftruncate fd size) (ftruncate_in (seen (tx_in k)) (space_in k) o fd size) (natural size) (ftruncate_resizing (volume_of k o None) fd size) fault (refusal fault) (down_after None fault) h refl refl).answerable (shown k o live serves)
 
 pub unlink : Refusals.UnlinkIsNeverRefused
 unlink path k new o files live fault serves h =
-    (unname_failed (state_of k o None) k new o files None refl refl serves.shows.light.ready.up serves.age (calls.Unlink path) (unlink_by (seen (tx_in k)) path) (unlink_removal (book_of k o None) path) fault (refusal fault) (down_after None fault) h refl refl).answerable (shown k o live serves)
+    (unname_failed (state_of k o None) k new o files None refl refl serves.shows.light.ready.up serves.age (calls.Unlink path) (unlink_by (seen (tx_in k)) path) (unlink_removal (volume_of k o None) path) fault (refusal fault) (down_after None fault) h refl refl).answerable (shown k o live serves)
 
 pub rmdir : Refusals.RmdirIsNeverRefused
 rmdir path k new o files live fault serves h =
-    (unname_failed (state_of k o None) k new o files None refl refl serves.shows.light.ready.up serves.age (calls.Rmdir path) (rmdir_by (seen (tx_in k)) path) (rmdir_removal (book_of k o None) path) fault (refusal fault) (down_after None fault) h refl refl).answerable (shown k o live serves)
+    (unname_failed (state_of k o None) k new o files None refl refl serves.shows.light.ready.up serves.age (calls.Rmdir path) (rmdir_by (seen (tx_in k)) path) (rmdir_removal (volume_of k o None) path) fault (refusal fault) (down_after None fault) h refl refl).answerable (shown k o live serves)
 
 pub rename : Refusals.RenameIsNeverRefused
 rename from to k new o files live fault serves h = (rename_failed (state_of k o None) k new o files None refl refl serves.shows.light.ready.up serves.age from to fault (refusal fault) (down_after None fault) h refl refl).answerable (shown k o live serves)

@@ -21,7 +21,7 @@ use Rattle.kfs_core.specs.Resizing.{ResizesTo, resize_weight}
 use Rattle.kfs_core.specs.Room.{space_in}
 use Rattle.kfs_posix.specs.Opens.{Opens, opened_as}
 use Rattle.kfs_posix.specs.Opening.{Opening, New, There, Cut, opened_file, open_in, OpenDoes}
-use Rattle.kfs_posix.specs.Book.{Book, SessionState, state_of, book_of, running_in, cause_of}
+use Rattle.kfs_posix.specs.Volume.{Volume, SessionState, state_of, volume_of, running_in, cause_of}
 use Rattle.kfs_posix.specs.Answering.{refusal, down_after}
 use Rattle.kfs_posix.specs.Showing.{GoesOn}
 use Rattle.kfs_posix.proofs.Fault.{added_same, make_caused, caused_counts, alone_caused}
@@ -37,8 +37,8 @@ number_plain n = plain (λ old new h. h) (λ old new a b. (a, b))
 
 module _ (old : SessionState) (k0 k1 : KfsState) (o o1 : Opens) (d : Option Cause) (is : state_of k0 o d ≡ old) (up : d ≡ None) (awake : (tx_in k0).machine.up ≡ true) (age : age_of (running_in old) < 2 ^ 63 - 2 ^ 40) (keys : k1.keys ≡ k0.keys) (pages : k1.pages ≡ k0.pages)
     (path : List ℕ) (flags : Flags) where
-  abbrev b : Book
-  b = book_of k0 o d
+  abbrev b : Volume
+  b = volume_of k0 o d
 
   abbrev call : Call
   call = calls.Open path flags

@@ -26,7 +26,7 @@ use Rattle.kfs_posix.specs.declared.open_files.OpenFile.{OpenFile}
 use Rattle.kfs_posix.specs.Opens.{Opens, desk_of, opened_as, relengthed}
 use Rattle.kfs_posix.specs.Opening.{Opening, New, There, Cut, opened_file, open_in}
 use Rattle.kfs_posix.specs.Holding.{Holds}
-use Rattle.kfs_posix.specs.Book.{Book, limits_of, cause_of}
+use Rattle.kfs_posix.specs.Volume.{Volume, limits_of, cause_of}
 use Rattle.kfs_posix.specs.Showing.{ShowsLive, GoesOn}
 use Rattle.kfs_posix.proofs.Held.{world_in, new_holds}
 use Rattle.kfs_posix.proofs.OpenJudges.{Meaning, meaning, space_for, open_same, cut_fits, opened_desk, opened_holds, opened_node, fresh_knows, there_weighs, new_weighs, cut_weighs}
@@ -39,7 +39,7 @@ use Rattle.kfs_posix.proofs.Going.{spare, spare_free, idle_goes, turn_goes, Refu
 use Rattle.kfs_posix.proofs.Calls.{stands_of, any_cause, unread_falls}
 use Rattle.kfs_core.specs.declared.fault.CoreFault.TheVariants.{Device}
 
-module _ (old : Book) (path : List ℕ) (flags : Flags) where
+module _ (old : Volume) (path : List ℕ) (flags : Flags) where
   abbrev call : Call
   call = calls.Open path flags
 
@@ -134,10 +134,10 @@ module _ (old : Book) (path : List ℕ) (flags : Flags) where
         room = (λ i. nat_le (charge_resized t sh.tree n h.0 h.3 0 i) old.keys && nat_le (chunks_resized t sh.tree n h.0 h.3 0 i) old.pages) ∙ cut_fits (limits_of old) t sh.room (length h.0);
       }
 
-  pub open_unread : (new : Book) (fault : DeviceFault) → old.down ≡ None → new.down ≡ Some (cause_of fault) → limits_of new ≡ limits_of old → GetFault old.tx fault new.tx.machine → Refuses old call (Device fault) new
+  pub open_unread : (new : Volume) (fault : DeviceFault) → old.down ≡ None → new.down ≡ Some (cause_of fault) → limits_of new ≡ limits_of old → GetFault old.tx fault new.tx.machine → Refuses old call (Device fault) new
   open_unread new fault up down same h = unread_falls old new call fault (λ w cause. any_cause w call refl refl refl cause) up down same h
 
-  pub open_falls : (new : Book) (fd : ℕ) (v : Where) (fault : DeviceFault) → old.down ≡ None → new.down ≡ Some (cause_of fault) → limits_of new ≡ limits_of old → old.tx.next + 1 < 2 ^ 63 → old.tx.changes + 1 < 2 ^ 63 → judge ≡ Ok (New v fd)
+  pub open_falls : (new : Volume) (fd : ℕ) (v : Where) (fault : DeviceFault) → old.down ≡ None → new.down ≡ Some (cause_of fault) → limits_of new ≡ limits_of old → old.tx.next + 1 < 2 ^ 63 → old.tx.changes + 1 < 2 ^ 63 → judge ≡ Ok (New v fd)
       → CreateFault old.tx (parent_of v) v.name fault new.tx.machine → Refuses old call (Device fault) new
   open_falls new fd v fault up down same low count is h =
       add_falls old 2 (File []) fresh_file refl refl v low count new call (replies.Number fd) (opened_as o fd (spare old) new_file) fault up down same (λ w cause. any_cause w call refl refl refl cause) (adds fd (spare old) v (spare_free old) is) h

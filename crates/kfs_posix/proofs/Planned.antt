@@ -23,7 +23,7 @@ use Rattle.kfs_file.proofs.Failing.{cause_before}
 use Rattle.kfs_core.proofs.Plans.{Plan}
 use Rattle.kfs_posix.specs.Opens.{Opens, desk_of}
 use Rattle.kfs_posix.specs.Holding.{Holds}
-use Rattle.kfs_posix.specs.Book.{Book, limits_of, cause_of}
+use Rattle.kfs_posix.specs.Volume.{Volume, limits_of, cause_of}
 use Rattle.kfs_posix.specs.Showing.{ShowsLive, IsWhole, GoesOn}
 use Rattle.kfs_posix.proofs.Changing.{IsPut, change_shown, sees, to_save}
 use Rattle.kfs_posix.proofs.Going.{Fell, spare, spare_free, as_before, as_after, change_goes_at, fall_goes, Refuses}
@@ -32,7 +32,7 @@ use Rattle.kfs_posix.proofs.Fault.{SameMachine}
 use Rattle.kfs_core.specs.declared.fault.CoreFault.TheVariants.{Device}
 
 -- the world that the objects show
-pub world_shown : (b : Book) (live : Live) → ShowsLive b live → ShowsWorld (seen b.tx) live.world
+pub world_shown : (b : Volume) (live : Live) → ShowsLive b live → ShowsWorld (seen b.tx) live.world
 world_shown b live sh = record {
   tree = sh.tree;
   shows = sh.sees.tree;
@@ -94,7 +94,7 @@ fallen_from old mid fault stands new same cause is bounds = record {
     by Memory h = h
 
 -- the objects of a planned change are put
-plan_put : (old : Book) (live : Live) → ShowsLive old live → (mid : Tx) (desk : Desk) (call : Call) (n c p : ℕ) → old.tx.changes + 1 < 2 ^ 63 → (plan : Plan old.tx mid (limits_of old) live.world desk call n c p) → IsPut old mid plan.world.tree n mid.next
+plan_put : (old : Volume) (live : Live) → ShowsLive old live → (mid : Tx) (desk : Desk) (call : Call) (n c p : ℕ) → old.tx.changes + 1 < 2 ^ 63 → (plan : Plan old.tx mid (limits_of old) live.world desk call n c p) → IsPut old mid plan.world.tree n mid.next
 plan_put old live sh mid desk call n c p count plan = record {
   ready = plan.ready;
   tree = plan.shows.tree;
@@ -112,11 +112,11 @@ plan_put old live sh mid desk call n c p count plan = record {
 }
 
 -- a plan with the open files after the call
-pub record Planned (old : Book) (mid : Tx) (call : Call) (files : Opens) (n c p : ℕ) (live : Live) : Type 0 where
+pub record Planned (old : Volume) (mid : Tx) (call : Call) (files : Opens) (n c p : ℕ) (live : Live) : Type 0 where
   pub plan : Plan old.tx mid (limits_of old) live.world (desk_of files) call n c p
   pub holds : Holds files plan.world.tree
 
-module _ (old : Book) (mid : Tx) (same : mid ≡ pending_of mid old.tx) (call : Call) (files : Opens) (n c p : ℕ) (count : old.tx.changes + 1 < 2 ^ 63) (up : old.down ≡ None)
+module _ (old : Volume) (mid : Tx) (same : mid ≡ pending_of mid old.tx) (call : Call) (files : Opens) (n c p : ℕ) (count : old.tx.changes + 1 < 2 ^ 63) (up : old.down ≡ None)
     (planned : (live : Live) → ShowsLive old live → Planned old mid call files n c p live) where
   world_is : (live : Live) (x : Planned old mid call files n c p live) → x.plan.world ≡ record { tree = x.plan.world.tree; desk = desk_of files }
   world_is live x = λ i. record { tree = x.plan.world.tree; desk = x.plan.desk i }
@@ -133,7 +133,7 @@ module _ (old : Book) (mid : Tx) (same : mid ≡ pending_of mid old.tx) (call : 
       ))
 
   -- where the change was counted
-  pub planned_falls : (new : Book) (fault : DeviceFault) → new.down ≡ Some (cause_of fault) → limits_of new ≡ limits_of old → ((live : Live) → ShowsLive old live → (cause : Cause) → can_fail live.world call cause ≡ true)
+  pub planned_falls : (new : Volume) (fault : DeviceFault) → new.down ≡ Some (cause_of fault) → limits_of new ≡ limits_of old → ((live : Live) → ShowsLive old live → (cause : Cause) → can_fail live.world call cause ≡ true)
       → ChangeFault mid n mid.next fault new.tx.machine → Refuses old call (Device fault) new
   planned_falls new fault down limits can h = fall_goes old new call fault up down limits fell
     where
@@ -164,7 +164,7 @@ module _ (old : Book) (mid : Tx) (same : mid ≡ pending_of mid old.tx) (call : 
           ]
 
 -- before any of the change was counted
-pub early_falls : (old new : Book) (call : Call) (m : ℕ) (fault : DeviceFault) → old.down ≡ None → new.down ≡ Some (cause_of fault) → limits_of new ≡ limits_of old → ((live : Live) → ShowsLive old live → (cause : Cause) → can_fail live.world call cause ≡ true)
+pub early_falls : (old new : Volume) (call : Call) (m : ℕ) (fault : DeviceFault) → old.down ≡ None → new.down ≡ Some (cause_of fault) → limits_of new ≡ limits_of old → ((live : Live) → ShowsLive old live → (cause : Cause) → can_fail live.world call cause ≡ true)
     → ((live : Live) → ShowsLive old live → m ≤ 260) → Fails old.tx m fault new.tx.machine → Refuses old call (Device fault) new
 early_falls old new call m fault up down limits can few h = fall_goes old new call fault up down limits (λ live sh. record {
   stands = old.tx.machine.stable;
@@ -174,7 +174,7 @@ early_falls old new call m fault up down limits can few h = fall_goes old new ca
 })
 
 -- before anything was asked of the transaction but to read
-pub unread_at : (old new : Book) (call : Call) (fault : DeviceFault) → old.down ≡ None → new.down ≡ Some (cause_of fault) → limits_of new ≡ limits_of old → ((live : Live) → ShowsLive old live → (cause : Cause) → can_fail live.world call cause ≡ true)
+pub unread_at : (old new : Volume) (call : Call) (fault : DeviceFault) → old.down ≡ None → new.down ≡ Some (cause_of fault) → limits_of new ≡ limits_of old → ((live : Live) → ShowsLive old live → (cause : Cause) → can_fail live.world call cause ≡ true)
     → GetFault old.tx fault new.tx.machine → Refuses old call (Device fault) new
 unread_at old new call fault up down limits can h = fall_goes old new call fault up down limits (λ live sh. record {
   stands = old.tx.machine.stable;

@@ -15,7 +15,7 @@ use Rattle.kfs_core.specs.Core.{KfsState, tx_in, Stays}
 use Rattle.kfs_core.specs.Gives.{LeavesAtFault}
 use Rattle.kfs_posix.specs.Opens.{Opens, with_file}
 use Rattle.kfs_posix.specs.Reading.{readable_in, readable_at, ReadDoes, PreadDoes, ReadRefuses}
-use Rattle.kfs_posix.specs.Book.{Book, SessionState, state_of, book_of, cause_of}
+use Rattle.kfs_posix.specs.Volume.{Volume, SessionState, state_of, volume_of, cause_of}
 use Rattle.kfs_posix.specs.Answering.{refusal, down_after}
 use Rattle.kfs_posix.specs.Showing.{GoesOn}
 use Rattle.kfs_posix.proofs.Fault.{read_counts}
@@ -27,8 +27,8 @@ pub read_plain : (text : List ℕ) → IsPlain (replies.Read text)
 read_plain text = plain (λ old new h. h) (λ old new a b. (a, b))
 
 module _ (old : SessionState) (k0 k1 : KfsState) (o o1 : Opens) (d : Option Cause) (is : state_of k0 o d ≡ old) (up : d ≡ None) (awake : (tx_in k0).machine.up ≡ true) (rest : Stays k0 k1) (fd count : ℕ) where
-  abbrev b : Book
-  b = book_of k0 o d
+  abbrev b : Volume
+  b = volume_of k0 o d
 
   charge_is : k1.charge ≡ k0.charge
   charge_is = ap (λ (k : KfsState). k.charge) rest

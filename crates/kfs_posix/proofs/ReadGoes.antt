@@ -28,7 +28,7 @@ use Rattle.kfs_posix.specs.Opens.{Opens, open_at, desk_of, with_file}
 use Rattle.kfs_posix.specs.Holding.{Holds, Knows, is_file}
 use Rattle.kfs_posix.specs.Turning.{at_offset}
 use Rattle.kfs_posix.specs.Reading.{readable_in, readable_at}
-use Rattle.kfs_posix.specs.Book.{Book, limits_of, cause_of}
+use Rattle.kfs_posix.specs.Volume.{Volume, limits_of, cause_of}
 use Rattle.kfs_posix.specs.Showing.{ShowsLive, GoesOn}
 use Rattle.kfs_posix.proofs.Held.{world_in, described, opened_same, file_is, with_file_desk, file_holds, moved_knows}
 use Rattle.kfs_posix.proofs.Going.{spare, spare_free, idle_goes, turn_goes, up_goes, Refuses}
@@ -101,7 +101,7 @@ file_bytes t f knows file = by knows.node knows.there (sym knows.kind ∙ file)
 behind : (bytes : List ℕ) (offset count : ℕ) → length bytes ≤ greatest_length → offset < 2 ^ 64 → offset + length (piece_at bytes offset count) < 2 ^ 64
 behind bytes offset count short low = let a = length-take count (drop offset bytes) in let b = length-drop offset bytes in omega arith
 
-module _ (old : Book) (fd count : ℕ) where
+module _ (old : Volume) (fd count : ℕ) where
   abbrev o : Opens
   o = old.files
 
@@ -173,10 +173,10 @@ module _ (old : Book) (fd count : ℕ) where
       ))
 
   -- an error of the file itself never comes
-  pub read_never : (it : ℕ × OpenFile) (place : ℕ) (e : Errno) (call : Call) (reply : Reply) (new : Book) → old.down ≡ None → readable_in o fd count ≡ Ok it → Reads (seen old.tx) it.1.it.node place count (Err (No e)) → GoesOn old (lines.Call call) (answers.Reply reply) new
+  pub read_never : (it : ℕ × OpenFile) (place : ℕ) (e : Errno) (call : Call) (reply : Reply) (new : Volume) → old.down ≡ None → readable_in o fd count ≡ Ok it → Reads (seen old.tx) it.1.it.node place count (Err (No e)) → GoesOn old (lines.Call call) (answers.Reply reply) new
   read_never it place e call reply new up judged reads = up_goes old new call reply up (λ s live showing sh. absurd (never it place e judged reads live sh))
 
-  pub read_unread : (new : Book) (fault : DeviceFault) → old.down ≡ None → new.down ≡ Some (cause_of fault) → limits_of new ≡ limits_of old → GetFault old.tx fault new.tx.machine → Refuses old (calls.Read fd count) (Device fault) new
+  pub read_unread : (new : Volume) (fault : DeviceFault) → old.down ≡ None → new.down ≡ Some (cause_of fault) → limits_of new ≡ limits_of old → GetFault old.tx fault new.tx.machine → Refuses old (calls.Read fd count) (Device fault) new
   read_unread new fault up down same h = read_falls old new (calls.Read fd count) fault (λ w. refl) (λ w. refl) up down same h
 
   -- ---- pread
@@ -220,7 +220,7 @@ module _ (old : Book) (fd count : ℕ) where
         ∙ (λ i. settled w (as_described (both.0 i) >>= λ it. (EINVAL when both.1 i) >> answered_by w (replies.Read (piece_at (content t it.1.node) (natural offset) count))))
         ∙ (λ i. record { world = record { tree = t; desk = sym sh.desk i }; reply = replies.Read (x.piece i) }))
 
-    pub pread_unread : (new : Book) (fault : DeviceFault) → old.down ≡ None → new.down ≡ Some (cause_of fault) → limits_of new ≡ limits_of old → GetFault old.tx fault new.tx.machine → Refuses old (calls.Pread fd count offset) (Device fault) new
+    pub pread_unread : (new : Volume) (fault : DeviceFault) → old.down ≡ None → new.down ≡ Some (cause_of fault) → limits_of new ≡ limits_of old → GetFault old.tx fault new.tx.machine → Refuses old (calls.Pread fd count offset) (Device fault) new
     pread_unread new fault up down same h = read_falls old new (calls.Pread fd count offset) fault (λ w. refl) (λ w. refl) up down same h
 
     pub pread_first : (it : ℕ × OpenFile) → readable_at o fd count offset ≡ Ok it → readable_in o fd count ≡ Ok it

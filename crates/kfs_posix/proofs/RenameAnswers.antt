@@ -22,7 +22,7 @@ use Rattle.kfs_core.specs.Renaming.{MovesTo, MoveFault, RenameFails, with_moved,
 use Rattle.kfs_posix.specs.Opens.{Opens, nodes_of}
 use Rattle.kfs_posix.specs.Removing.{open_now}
 use Rattle.kfs_posix.specs.Renaming.{Renamed, NotRenamed, rename_by, without_replaced}
-use Rattle.kfs_posix.specs.Book.{Book, SessionState, state_of, book_of, running_in, cause_of}
+use Rattle.kfs_posix.specs.Volume.{Volume, SessionState, state_of, volume_of, running_in, cause_of}
 use Rattle.kfs_posix.specs.Answering.{refusal, down_after}
 use Rattle.kfs_posix.specs.Showing.{GoesOn}
 use Rattle.kfs_posix.proofs.Fault.{caused_counts, alone_caused}
@@ -41,8 +41,8 @@ rename_not_done old new o p q from to judge nodes (Device fault) a b is (stays, 
     (stays, refl, inr (move, (λ i. a i >>= λ f. b i >>= λ g. judge f g) ∙ judged, subst (λ ns. MoveFault (tx_in old) move (is_open_in ns) fault (tx_in new).machine) is fell))
 
 module _ (old : SessionState) (k0 k1 : KfsState) (o o1 : Opens) (d : Option Cause) (is : state_of k0 o d ≡ old) (up : d ≡ None) (awake : (tx_in k0).machine.up ≡ true) (age : age_of (running_in old) < 2 ^ 63 - 2 ^ 40) (from to : List ℕ) where
-  abbrev b : Book
-  b = book_of k0 o d
+  abbrev b : Volume
+  b = volume_of k0 o d
 
   abbrev call : Call
   call = calls.Rename from to

@@ -29,7 +29,7 @@ use Rattle.kfs_posix.specs.Opens.{Opens, desk_of}
 use Rattle.kfs_posix.specs.Holding.{Holds}
 use Rattle.kfs_posix.specs.Removing.{open_now}
 use Rattle.kfs_posix.specs.Renaming.{rename_by, without_replaced}
-use Rattle.kfs_posix.specs.Book.{Book, limits_of, cause_of}
+use Rattle.kfs_posix.specs.Volume.{Volume, limits_of, cause_of}
 use Rattle.kfs_posix.specs.Showing.{ShowsLive, GoesOn}
 use Rattle.kfs_posix.proofs.Held.{world_in}
 use Rattle.kfs_posix.proofs.Going.{spare, spare_free, idle_goes, turn_goes, Refuses}
@@ -90,7 +90,7 @@ no_weight from to e w x = by (has_left w.tree x.tree from)
     by true = refl
     by false = refl
 
-module _ (old : Book) (from to : List ℕ) (up : old.down ≡ None) where
+module _ (old : Volume) (from to : List ℕ) (up : old.down ≡ None) where
   abbrev call : Call
   call = calls.Rename from to
 
@@ -159,7 +159,7 @@ module _ (old : Book) (from to : List ℕ) (up : old.down ≡ None) where
       pub rename_goes : (mid : Tx) → Replaces old.tx move.replaced (open_now old.files) mid → GoesOn old (lines.Call call) (answers.Reply replies.Done) (record old { tx = one_change (with_moved mid move) n mid.next; charge = c; chunks = p; files = files })
       rename_goes mid does = planned_goes old (with_moved mid move) (moved_same old.tx move (open_now old.files) mid does) call files n c p count up (planned mid does)
 
-      pub rename_falls : (new : Book) (fault : DeviceFault) → new.down ≡ Some (cause_of fault) → limits_of new ≡ limits_of old → MoveFault old.tx move (open_now old.files) fault new.tx.machine
+      pub rename_falls : (new : Volume) (fault : DeviceFault) → new.down ≡ Some (cause_of fault) → limits_of new ≡ limits_of old → MoveFault old.tx move (open_now old.files) fault new.tx.machine
           → Refuses old call (Device fault) new
       rename_falls new fault down limits (inl h) = early_falls old new call (3 + chunks_replaced move.replaced (open_now old.files)) fault up down limits (λ live sh cause. any_cause live.world call refl refl refl cause) (λ live sh.
           let it = ways live sh in
@@ -168,5 +168,5 @@ module _ (old : Book) (from to : List ℕ) (up : old.down ≡ None) where
       rename_falls new fault down limits (inr (mid, does, h)) =
           planned_falls old (with_moved mid move) (moved_same old.tx move (open_now old.files) mid does) call files n c p count up (planned mid does) new fault down limits (λ live sh cause. any_cause live.world call refl refl refl cause) h
 
-  pub rename_unread : (new : Book) (fault : DeviceFault) → new.down ≡ Some (cause_of fault) → limits_of new ≡ limits_of old → GetFault old.tx fault new.tx.machine → Refuses old call (Device fault) new
+  pub rename_unread : (new : Volume) (fault : DeviceFault) → new.down ≡ Some (cause_of fault) → limits_of new ≡ limits_of old → GetFault old.tx fault new.tx.machine → Refuses old call (Device fault) new
   rename_unread new fault down limits h = unread_at old new call fault up down limits (λ live sh cause. any_cause live.world call refl refl refl cause) h

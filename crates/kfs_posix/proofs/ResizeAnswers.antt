@@ -17,7 +17,7 @@ use Rattle.kfs_core.specs.Files.{with_length}
 use Rattle.kfs_core.specs.Resizing.{ResizesTo, resize_weight}
 use Rattle.kfs_posix.specs.Opens.{Opens, relengthed}
 use Rattle.kfs_posix.specs.Resizing.{Resized, NotResized}
-use Rattle.kfs_posix.specs.Book.{Book, SessionState, state_of, book_of, running_in, cause_of}
+use Rattle.kfs_posix.specs.Volume.{Volume, SessionState, state_of, volume_of, running_in, cause_of}
 use Rattle.kfs_posix.specs.Answering.{refusal, down_after}
 use Rattle.kfs_posix.specs.Showing.{GoesOn}
 use Rattle.kfs_posix.proofs.Fault.{caused_counts, alone_caused}
@@ -29,9 +29,9 @@ use Rattle.kfs_posix.proofs.ResizeGoes.{length_same, length_rests, length_goes, 
 use Rattle.kfs_posix.proofs.ResizeEvents.{IsResizing}
 
 module _ (old : SessionState) (k0 k1 : KfsState) (o o1 : Opens) (d : Option Cause) (is : state_of k0 o d ≡ old) (up : d ≡ None) (awake : (tx_in k0).machine.up ≡ true) (age : age_of (running_in old) < 2 ^ 63 - 2 ^ 40)
-    (call : Call) (judge : Result (ℕ × ℕ) Errno) (size : ℕ) (resizing : IsResizing (book_of k0 o d) call judge size) where
-  abbrev b : Book
-  b = book_of k0 o d
+    (call : Call) (judge : Result (ℕ × ℕ) Errno) (size : ℕ) (resizing : IsResizing (volume_of k0 o d) call judge size) where
+  abbrev b : Volume
+  b = volume_of k0 o d
 
   pub resize_answered : Resized k0 o judge size k1 o1 → Happens old call replies.Done k1 o1 d
   resize_answered h = by (h.was == size) refl h.effect

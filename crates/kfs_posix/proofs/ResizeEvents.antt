@@ -32,7 +32,7 @@ use Rattle.kfs_posix.specs.Opens.{Opens, open_at, desk_of, relengthed}
 use Rattle.kfs_posix.specs.Holding.{Holds}
 use Rattle.kfs_posix.specs.Writing.{writable_in, writable_at}
 use Rattle.kfs_posix.specs.Resizing.{resize_node, ftruncate_in, file_found, named_file_in, truncate_by}
-use Rattle.kfs_posix.specs.Book.{Book, limits_of}
+use Rattle.kfs_posix.specs.Volume.{Volume, limits_of}
 use Rattle.kfs_posix.specs.Showing.{ShowsLive}
 use Rattle.kfs_posix.proofs.Held.{world_in, described, opened_same, file_is}
 use Rattle.kfs_posix.proofs.Going.{spare}
@@ -44,7 +44,7 @@ use Rattle.kfs_posix.proofs.WriteEvents.{looked_up, space_of, space_is}
 use Rattle.kfs_posix.proofs.ResizeGoes.{Lengthens}
 
 -- a call that gives the file that it judged a length
-pub record IsResizing (old : Book) (call : Call) (judge : Result (ℕ × ℕ) Errno) (size : ℕ) : Type 0 where
+pub record IsResizing (old : Volume) (call : Call) (judge : Result (ℕ × ℕ) Errno) (size : ℕ) : Type 0 where
   pub does : (live : Live) → ShowsLive old live → (it : ℕ × ℕ) → judge ≡ Ok it → Lengthens old it.0 it.1 size call replies.Done (relengthed old.files it.0 size) (spare old) live
   pub refused : (live : Live) → ShowsLive old live → (e : Errno) → judge ≡ Err e → step (limits_of old) (spare old) live.world call ≡ record { world = live.world; reply = replies.Err e }
   pub weightless : (e : Errno) (w x : World) → weight w call (record { world = x; reply = replies.Err e }) ≡ None
@@ -67,7 +67,7 @@ pub length_holds : (t : Tree) (o : Opens) (n : ℕ) (bytes : List ℕ) (size : �
 length_holds t o n bytes size file holds = subst (λ l. Holds (relengthed o n l) (with_node t n (File (resized bytes size)))) (length_resized bytes size) (relengthed_holds t o n bytes (resized bytes size) file holds)
 
 -- the file and its length, by the judge
-node_judged : (old : Book) (n size : ℕ) (it : ℕ × ℕ) → resize_node (seen old.tx) (space_of old) n size ≡ Ok it → (n ≡ it.0) × (resize_in (seen old.tx) (space_of old) n size ≡ Ok it.1)
+node_judged : (old : Volume) (n size : ℕ) (it : ℕ × ℕ) → resize_node (seen old.tx) (space_of old) n size ≡ Ok it → (n ≡ it.0) × (resize_in (seen old.tx) (space_of old) n size ≡ Ok it.1)
 node_judged old n size it e =
     let x = ok_bind (resize_in (seen old.tx) (space_of old) n size) (λ was. Ok (n, was)) it e in
     let same : (n, x.0) ≡ it = cc in
@@ -75,7 +75,7 @@ node_judged old n size it e =
 
 -- ---- ftruncate
 
-module _ (old : Book) (fd : ℕ) (size : ℤ) where
+module _ (old : Volume) (fd : ℕ) (size : ℤ) where
   abbrev o : Opens
   o = old.files
 
@@ -200,7 +200,7 @@ split m space route size = by (reach_in m route)
     by (Ok None) = refl
     by (Ok (Some (n, kind, was))) = last n (kind == 1) route.trailing
 
-module _ (old : Book) (path : List ℕ) where
+module _ (old : Volume) (path : List ℕ) where
   abbrev judge_by : ℤ → Result (ℕ × ℕ) Errno
   judge_by size = truncate_by (seen old.tx) (space_of old) path size
 

@@ -32,7 +32,7 @@ use Rattle.kfs_core.proofs.ResizingJudges.{charge_resized, chunks_resized, resiz
 use Rattle.kfs_core.proofs.Weights.{resizing_is, resizing_stays}
 use Rattle.kfs_posix.specs.Opens.{Opens, desk_of}
 use Rattle.kfs_posix.specs.Holding.{Holds}
-use Rattle.kfs_posix.specs.Book.{Book, limits_of, cause_of}
+use Rattle.kfs_posix.specs.Volume.{Volume, limits_of, cause_of}
 use Rattle.kfs_posix.specs.Showing.{ShowsLive, IsWhole, GoesOn}
 use Rattle.kfs_posix.proofs.Changing.{IsPut, change_shown, sees, to_save}
 use Rattle.kfs_posix.proofs.Going.{spare, as_before, as_after, change_goes_at, turn_goes, fall_goes, Refuses}
@@ -41,7 +41,7 @@ use Rattle.kfs_posix.proofs.Planned.{world_shown, changed_same, changed_bounds, 
 use Rattle.kfs_core.specs.declared.fault.CoreFault.TheVariants.{Device}
 
 -- what the call does to the tree that is shown: the file n, of so many bytes, gets a length; d is the number of the description that the call makes
-pub record Lengthens (old : Book) (n was size : ℕ) (call : Call) (reply : Reply) (files : Opens) (d : ℕ) (live : Live) : Type 0 where
+pub record Lengthens (old : Volume) (n was size : ℕ) (call : Call) (reply : Reply) (files : Opens) (d : ℕ) (live : Live) : Type 0 where
   pub bytes : List ℕ
   pub file : node_of live.world.tree n ≡ Some (File bytes)
   pub was_is : was ≡ length bytes
@@ -72,7 +72,7 @@ few_cut was size le = by (nat_lt size was)
 small_inode : (size : ℕ) (key : List ℕ) → (nat_lt 128 (length (inode_value 2 size)) && nat_lt 32 (length key)) ≡ false
 small_inode size key = let h = length_be64 size in let f : nat_lt 128 (length (inode_value 2 size)) ≡ false = grind (arith, nat_tests) in ap (λ b. b && nat_lt 32 (length key)) f
 
-module _ (old : Book) (n was size : ℕ) (call : Call) (reply : Reply) (files : Opens) (up : old.down ≡ None) where
+module _ (old : Volume) (n was size : ℕ) (call : Call) (reply : Reply) (files : Opens) (up : old.down ≡ None) where
   -- the same length changes nothing but what is open
   pub length_rests : (d : ℕ) → find nat_cmp d old.files.files ≡ None → was ≡ size → commits call reply ≡ false → ((live : Live) → ShowsLive old live → Lengthens old n was size call reply files d live)
       → GoesOn old (lines.Call call) (answers.Reply reply) (record old { files = files })
@@ -168,7 +168,7 @@ module _ (old : Book) (n was size : ℕ) (call : Call) (reply : Reply) (files : 
           ))
 
     -- a fault in it
-    pub length_falls : (new : Book) (fault : DeviceFault) → new.down ≡ Some (cause_of fault) → limits_of new ≡ limits_of old → ((u : World) (cause : Cause) → can_fail u call cause ≡ true)
+    pub length_falls : (new : Volume) (fault : DeviceFault) → new.down ≡ Some (cause_of fault) → limits_of new ≡ limits_of old → ((u : World) (cause : Cause) → can_fail u call cause ≡ true)
         → ((live : Live) → ShowsLive old live → Lengthens old n was size call reply files (spare old) live) → ResizeFault old.tx n was size fault new.tx.machine
         → Refuses old call (Device fault) new
     length_falls new fault down limits can at (inl h) = early_falls old new call (keys_cut was size) fault up down limits (λ live sh cause. can live.world cause)

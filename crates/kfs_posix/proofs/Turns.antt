@@ -21,7 +21,7 @@ use Rattle.kfs_posix.specs.declared.open_files.OpenFile.{OpenFile}
 use Rattle.kfs_posix.specs.Opens.{Opens, desk_of, open_at, with_descriptor, with_file}
 use Rattle.kfs_posix.specs.Holding.{Holds}
 use Rattle.kfs_posix.specs.Turning.{Turn, turned, dup_in, lseek_in, fstat_in, base, at_offset}
-use Rattle.kfs_posix.specs.Book.{Book, SessionState, state_of, book_of, limits_of}
+use Rattle.kfs_posix.specs.Volume.{Volume, SessionState, state_of, volume_of, limits_of}
 use Rattle.kfs_posix.specs.Answering.{Counts, KeepsCause}
 use Rattle.kfs_posix.specs.Showing.{GoesOn}
 use Rattle.kfs_posix.proofs.Held.{world_in, after_in, dup_same, dup_holds, lseek_same, lseek_holds, fstat_same, fstat_files}
@@ -98,16 +98,16 @@ still_counts m (replies.Down cause) h = absurd h
 still_counts m replies.Off h = absurd h
 still_counts m reply h = (refl, refl)
 
-still_up : (old new : Book) (reply : Reply) → IsAnswer reply → old.down ≡ None → new.down ≡ None → KeepsCause old reply new
+still_up : (old new : Volume) (reply : Reply) → IsAnswer reply → old.down ≡ None → new.down ≡ None → KeepsCause old reply new
 still_up old new (replies.Down cause) h a b = absurd h
 still_up old new replies.Off h a b = absurd h
 still_up old new reply h a b = (a, b)
 
 module _ (old : SessionState) (k0 : KfsState) (o o1 : Opens) (d : Option Cause) (is : state_of k0 o d ≡ old) (up : d ≡ None) (call : Call) (reply : Reply) (r : Result Turn Errno) (turns : Turns o call r) (done : record { files = o1; reply = reply } ≡ turned o r) where
-  abbrev b : Book
-  b = book_of k0 o d
+  abbrev b : Volume
+  b = volume_of k0 o d
 
-  pub turned_goes : GoesOn old.book (lines.Call call) (answers.Reply reply) (book_of k0 o1 d)
+  pub turned_goes : GoesOn old.volume (lines.Call call) (answers.Reply reply) (volume_of k0 o1 d)
   turned_goes =
       let turn = turned o r in
       let goes : GoesOn b (lines.Call call) (answers.Reply turn.reply) (record b { files = turn.files }) =
@@ -116,14 +116,14 @@ module _ (old : SessionState) (k0 : KfsState) (o o1 : Opens) (d : Option Cause) 
         turns.weighs live.world (desk_of turn.files) turn.reply,
         turns.holds live.world.tree sh.holds,
       )) in
-      subst (λ (s : SessionState). GoesOn s.book (lines.Call call) (answers.Reply reply) (book_of k0 o1 d)) is
+      subst (λ (s : SessionState). GoesOn s.volume (lines.Call call) (answers.Reply reply) (volume_of k0 o1 d)) is
       (subst (λ (x : Turn). GoesOn b (lines.Call call) (answers.Reply x.reply) (record b { files = x.files })) (sym done) goes)
 
   is_answer : IsAnswer reply
   is_answer = subst (λ (x : Turn). IsAnswer x.reply) (sym done) turns.answers
 
-  pub turned_counts : Counts old.book.tx.machine reply (tx_in k0).machine
-  turned_counts = subst (λ (s : SessionState). Counts s.book.tx.machine reply (tx_in k0).machine) is (still_counts (tx_in k0).machine reply is_answer)
+  pub turned_counts : Counts old.volume.tx.machine reply (tx_in k0).machine
+  turned_counts = subst (λ (s : SessionState). Counts s.volume.tx.machine reply (tx_in k0).machine) is (still_counts (tx_in k0).machine reply is_answer)
 
-  pub turned_keeps : KeepsCause old.book reply (book_of k0 o1 d)
-  turned_keeps = subst (λ (s : SessionState). KeepsCause s.book reply (book_of k0 o1 d)) is (still_up b (book_of k0 o1 d) reply is_answer up up)
+  pub turned_keeps : KeepsCause old.volume reply (volume_of k0 o1 d)
+  turned_keeps = subst (λ (s : SessionState). KeepsCause s.volume reply (volume_of k0 o1 d)) is (still_up b (volume_of k0 o1 d) reply is_answer up up)

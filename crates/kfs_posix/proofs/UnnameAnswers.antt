@@ -15,7 +15,7 @@ use Rattle.kfs_core.specs.declared.removing.Leaf.{Leaf}
 use Rattle.kfs_core.specs.Core.{KfsState, tx_in}
 use Rattle.kfs_posix.specs.Opens.{Opens, without_name}
 use Rattle.kfs_posix.specs.Removing.{Unnamed, UnnameFails, open_now}
-use Rattle.kfs_posix.specs.Book.{Book, SessionState, state_of, book_of, running_in, cause_of}
+use Rattle.kfs_posix.specs.Volume.{Volume, SessionState, state_of, volume_of, running_in, cause_of}
 use Rattle.kfs_posix.specs.Answering.{refusal, down_after}
 use Rattle.kfs_posix.specs.Showing.{GoesOn}
 use Rattle.kfs_posix.proofs.Fault.{caused_counts, alone_caused}
@@ -28,9 +28,9 @@ pub done_plain : IsPlain replies.Done
 done_plain = plain (λ old new h. h) (λ old new a b. (a, b))
 
 module _ (old : SessionState) (k0 k1 : KfsState) (o o1 : Opens) (d : Option Cause) (is : state_of k0 o d ≡ old) (up : d ≡ None) (awake : (tx_in k0).machine.up ≡ true) (age : age_of (running_in old) < 2 ^ 63 - 2 ^ 40)
-    (call : Call) (judge : Result Leaf Errno) (removal : IsRemoval (book_of k0 o d) call judge) where
-  abbrev b : Book
-  b = book_of k0 o d
+    (call : Call) (judge : Result Leaf Errno) (removal : IsRemoval (volume_of k0 o d) call judge) where
+  abbrev b : Volume
+  b = volume_of k0 o d
 
   pub unname_answered : Unnamed k0 o judge k1 o1 → Happens old call replies.Done k1 o1 d
   unname_answered h =

@@ -28,7 +28,7 @@ use Rattle.kfs_core.proofs.Plans.{Plan, leaf_light, unlink_plan, unlink_refused,
 use Rattle.kfs_posix.specs.Opens.{desk_of, without_name}
 use Rattle.kfs_posix.specs.Holding.{Holds}
 use Rattle.kfs_posix.specs.Removing.{open_now, unlink_by, rmdir_by}
-use Rattle.kfs_posix.specs.Book.{Book, limits_of, cause_of}
+use Rattle.kfs_posix.specs.Volume.{Volume, limits_of, cause_of}
 use Rattle.kfs_posix.specs.Showing.{ShowsLive, GoesOn}
 use Rattle.kfs_posix.proofs.Held.{world_in}
 use Rattle.kfs_posix.proofs.Going.{spare, idle_goes, Refuses}
@@ -38,7 +38,7 @@ use Rattle.kfs_posix.proofs.Unnaming.{listed_same, forgets, leaf_holds}
 use Rattle.kfs_core.specs.declared.fault.CoreFault.TheVariants.{Device}
 
 -- a call that takes away the entry that it judged
-pub record IsRemoval (old : Book) (call : Call) (judge : Result Leaf Errno) : Type 0 where
+pub record IsRemoval (old : Volume) (call : Call) (judge : Result Leaf Errno) : Type 0 where
   pub plan : (live : Live) → ShowsLive old live → (leaf : Leaf) → judge ≡ Ok leaf → (mid : Tx) → Unnames old.tx leaf (open_now old.files leaf.node) mid
       → Plan old.tx mid (limits_of old) live.world live.world.desk call (4 + chunks_gone leaf (open_now old.files leaf.node)) (old.charge - keys_gone leaf (open_now old.files leaf.node)) (old.chunks - chunks_gone leaf (open_now old.files leaf.node))
   pub leaf : (live : Live) → ShowsLive old live → (leaf : Leaf) → judge ≡ Ok leaf
@@ -53,7 +53,7 @@ pub unnames_same : (r : Tx) (leaf : Leaf) (b : Bool) (mid : Tx) → Unnames r le
 unnames_same r leaf true mid h = subst (λ (x : Tx). x ≡ pending_of x r) (sym h) refl
 unnames_same r leaf false mid h = (goes_follows (deleted_in r (entry_key leaf.parent leaf.name)) mid leaf.node leaf.size h).same
 
-module _ (old : Book) (call : Call) (judge : Result Leaf Errno) (removal : IsRemoval old call judge) (count : old.tx.changes + 1 < 2 ^ 63) (up : old.down ≡ None) where
+module _ (old : Volume) (call : Call) (judge : Result Leaf Errno) (removal : IsRemoval old call judge) (count : old.tx.changes + 1 < 2 ^ 63) (up : old.down ≡ None) where
   abbrev open_still : Leaf → Bool
   open_still leaf = open_now old.files leaf.node
 
@@ -85,10 +85,10 @@ module _ (old : Book) (call : Call) (judge : Result Leaf Errno) (removal : IsRem
   pub unname_refused : (e : Errno) → judge ≡ Err e → GoesOn old (lines.Call call) (answers.Reply (replies.Err e)) old
   unname_refused e is = idle_goes old call (replies.Err e) up (removal.weightless e) (removal.quiet e) (λ live sh. removal.refused live sh e is (spare old))
 
-  pub unname_unread : (new : Book) (fault : DeviceFault) → new.down ≡ Some (cause_of fault) → limits_of new ≡ limits_of old → GetFault old.tx fault new.tx.machine → Refuses old call (Device fault) new
+  pub unname_unread : (new : Volume) (fault : DeviceFault) → new.down ≡ Some (cause_of fault) → limits_of new ≡ limits_of old → GetFault old.tx fault new.tx.machine → Refuses old call (Device fault) new
   unname_unread new fault down limits h = unread_at old new call fault up down limits (λ live sh cause. removal.can live.world cause) h
 
-  pub unname_falls : (new : Book) (leaf : Leaf) (fault : DeviceFault) → judge ≡ Ok leaf → new.down ≡ Some (cause_of fault) → limits_of new ≡ limits_of old → UnlinkFault old.tx leaf (open_still leaf) fault new.tx.machine
+  pub unname_falls : (new : Volume) (leaf : Leaf) (fault : DeviceFault) → judge ≡ Ok leaf → new.down ≡ Some (cause_of fault) → limits_of new ≡ limits_of old → UnlinkFault old.tx leaf (open_still leaf) fault new.tx.machine
       → Refuses old call (Device fault) new
   unname_falls new leaf fault is down limits (inl h) = early_falls old new call (2 + chunks_gone leaf (open_still leaf)) fault up down limits (λ live sh cause. removal.can live.world cause) (λ live sh.
       let at = removal.leaf live sh leaf is in
@@ -112,7 +112,7 @@ pub err_bind : {X Y : Type 0} (r : Result X Errno) (f : X → Result Y Errno) (e
 err_bind (Ok x) f e h = inr (x, refl, h)
 err_bind {X} (Err d) f e h = let same : d ≡ e = cc in inl (λ i. Err (same i))
 
-module _ (old : Book) (path : List ℕ) where
+module _ (old : Volume) (path : List ℕ) where
   pub listed : (live : Live) (sh : ShowsLive old live) (n : ℕ) → n < 2 ^ 64 → open_now old.files n ≡ is_open live.world.desk n
   listed live sh n small = listed_same old.files live.world.tree sh.tree sh.low sh.holds n small ∙ ap (λ (desk : Desk). is_open desk n) (sym sh.desk)
 

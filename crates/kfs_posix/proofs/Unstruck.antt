@@ -13,7 +13,7 @@ use Rattle.kfs_model.specs.Life.{State, Now, Up, Down, EventAt, live_after, fall
 use Rattle.kfs_model.specs.Step.{step}
 use Rattle.kfs_step_laws.specs.Plain.{PlainAnswer}
 use Rattle.kfs_posix.specs.Answering.{Counts}
-use Rattle.kfs_posix.specs.Book.{limits_of}
+use Rattle.kfs_posix.specs.Volume.{limits_of}
 use Rattle.kfs_posix.specs.Unplanned.{IsUnplanned, CallsFailUnplannedByMemoryAlone}
 use Rattle.kfs_posix.proofs.Shown.{fits}
 

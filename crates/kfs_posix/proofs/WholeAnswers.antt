@@ -26,7 +26,7 @@ use Rattle.kfs_core.specs.Listing.{ListsAll, IsOfDevice}
 use Rattle.kfs_core.specs.Working.{WorkFails}
 use Rattle.kfs_core.proofs.Told.{told_same}
 use Rattle.kfs_posix.specs.Opens.{Opens}
-use Rattle.kfs_posix.specs.Book.{Book, SessionState, state_of, book_of, limits_of, cause_of}
+use Rattle.kfs_posix.specs.Volume.{Volume, SessionState, state_of, volume_of, limits_of, cause_of}
 use Rattle.kfs_posix.specs.Answering.{Counts, refusal, down_after}
 use Rattle.kfs_posix.specs.Showing.{ShowsLive, GoesOn}
 use Rattle.kfs_posix.proofs.Going.{as_before, idle_goes, fall_goes, Refuses}
@@ -41,20 +41,20 @@ both_true true b e = (refl, e)
 both_true false b e = absurd (cc)
 
 -- a session on a device of few keys sees few objects
-few_seen : (b : Book) (live : Live) → ShowsLive b live → b.keys < 2 ^ 32 → objects.len (seen b.tx) < 2 ^ 32
+few_seen : (b : Volume) (live : Live) → ShowsLive b live → b.keys < 2 ^ 32 → objects.len (seen b.tx) < 2 ^ 32
 few_seen b live sh small =
     let h = both_true (nat_le (charge live.world.tree) b.keys) (nat_le (chunks live.world.tree) b.pages) sh.room in
     let le : charge live.world.tree ≤ b.keys = grind (arith, nat_tests, h.0) in
     let few = few_objects (seen b.tx) live.world.tree sh.tree sh.sees.tree (let h = sh.low in omega arith) in
     omega arith
 
-tree_goes : (old : Book) (items : List TreeItem) → old.down ≡ None → old.keys < 2 ^ 32 → ListsAll (seen old.tx) items → GoesOn old (lines.Call calls.Tree) (answers.Reply (replies.Tree items)) old
+tree_goes : (old : Volume) (items : List TreeItem) → old.down ≡ None → old.keys < 2 ^ 32 → ListsAll (seen old.tx) items → GoesOn old (lines.Call calls.Tree) (answers.Reply (replies.Tree items)) old
 tree_goes old items up small lists = idle_goes old calls.Tree (replies.Tree items) up (λ w x. refl) refl (λ live sh.
     ap (λ xs. record { world = live.world; reply = replies.Tree xs }) (sym (told_same (seen old.tx) live.world.tree (stands_of old live sh) (few_seen old live sh small) items lists)))
 
 -- ---- due jobs
 
-work_goes : (old : Book) (operations : ℕ) → old.down ≡ None → GoesOn old (lines.Call (calls.Work operations)) (answers.Reply replies.Done) old
+work_goes : (old : Volume) (operations : ℕ) → old.down ≡ None → GoesOn old (lines.Call (calls.Work operations)) (answers.Reply replies.Done) old
 work_goes old operations up = idle_goes old (calls.Work operations) replies.Done up (λ w x. refl) refl (λ live sh. refl)
 
 bounds_along : (m new x : Machine) → new ≡ x → SameBounds m x → SameBounds m new
@@ -70,7 +70,7 @@ work_fallen m Off new h = record { cause = (h.0, ap (λ (x : Machine). x.faults)
 work_fallen m Failed new h = record { cause = (h.0, ap (λ (x : Machine). x.cuts) h.1); stable = ap (λ (x : Machine). x.stable) h.1; bounds = bounds_along m new _ h.1 (record { most_cuts = refl; most_faults = refl; room_keys = refl; room_pages = refl }) }
 work_fallen m Memory new h = record { cause = (ap (λ (x : Machine). x.cuts) h, ap (λ (x : Machine). x.faults) h); stable = ap (λ (x : Machine). x.stable) h; bounds = bounds_along m new _ h (record { most_cuts = refl; most_faults = refl; room_keys = refl; room_pages = refl }) }
 
-work_falls : (old new : Book) (operations : ℕ) (fault : DeviceFault) → old.down ≡ None → new.down ≡ Some (cause_of fault) → limits_of new ≡ limits_of old → WorkFault old.tx.machine fault new.tx.machine
+work_falls : (old new : Volume) (operations : ℕ) (fault : DeviceFault) → old.down ≡ None → new.down ≡ Some (cause_of fault) → limits_of new ≡ limits_of old → WorkFault old.tx.machine fault new.tx.machine
     → Refuses old (calls.Work operations) (Device fault) new
 work_falls old new operations fault up down limits h = fall_goes old new (calls.Work operations) fault up down limits (λ live sh. record {
   stands = old.tx.machine.stable;
@@ -82,8 +82,8 @@ work_falls old new operations fault up down limits h = fall_goes old new (calls.
 -- ---- of a session
 
 module _ (old : SessionState) (k0 k1 : KfsState) (o : Opens) (d : Option Cause) (is : state_of k0 o d ≡ old) (up : d ≡ None) (awake : (tx_in k0).machine.up ≡ true) (rest : Stays k0 k1) where
-  abbrev b : Book
-  b = book_of k0 o d
+  abbrev b : Volume
+  b = volume_of k0 o d
 
   -- answered, with all as it was
   idle : (call : Call) (reply : Reply) → IsPlain reply → tx_in k1 ≡ tx_in k0 → GoesOn b (lines.Call call) (answers.Reply reply) b → Happens old call reply k1 o d

@@ -23,7 +23,7 @@ use Rattle.kfs_core.specs.Room.{grown, chunks_for, fits_in, space_in}
 use Rattle.kfs_core.proofs.FileFaults.{write_caused}
 use Rattle.kfs_posix.specs.Opens.{Opens, relengthed}
 use Rattle.kfs_posix.specs.Writing.{writable_in, writable_at, place_of, behind, moved_behind, FdWriteDoes, PwriteDoes}
-use Rattle.kfs_posix.specs.Book.{Book, SessionState, state_of, book_of, running_in, cause_of}
+use Rattle.kfs_posix.specs.Volume.{Volume, SessionState, state_of, volume_of, running_in, cause_of}
 use Rattle.kfs_posix.specs.Answering.{refusal, down_after}
 use Rattle.kfs_posix.specs.Showing.{ShowsLive, GoesOn}
 use Rattle.kfs_posix.proofs.Fault.{caused_counts, alone_caused}
@@ -35,8 +35,8 @@ use Rattle.kfs_posix.proofs.WriteEvents
 use Rattle.kfs_posix.proofs.Going.{errs}
 
 module _ (old : SessionState) (k0 k1 : KfsState) (o o1 : Opens) (d : Option Cause) (is : state_of k0 o d ≡ old) (up : d ≡ None) (awake : (tx_in k0).machine.up ≡ true) (age : age_of (running_in old) < 2 ^ 63 - 2 ^ 40) where
-  abbrev b : Book
-  b = book_of k0 o d
+  abbrev b : Volume
+  b = volume_of k0 o d
 
   -- all as it was
   unchanged : (call : Call) (n : ℕ) → Same k0 k1 → o1 ≡ o → GoesOn b (lines.Call call) (answers.Reply (replies.Number n)) b → Happens old call (replies.Number n) k1 o1 d

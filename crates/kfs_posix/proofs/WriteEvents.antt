@@ -37,7 +37,7 @@ use Rattle.kfs_posix.specs.Opens.{Opens, open_at, desk_of, with_file, relengthed
 use Rattle.kfs_posix.specs.Holding.{Holds, Knows}
 use Rattle.kfs_posix.specs.Turning.{at_offset}
 use Rattle.kfs_posix.specs.Writing.{writable_in, writable_at, place_of, behind, moved_behind}
-use Rattle.kfs_posix.specs.Book.{Book, limits_of}
+use Rattle.kfs_posix.specs.Volume.{Volume, limits_of}
 use Rattle.kfs_posix.specs.Showing.{ShowsLive, GoesOn}
 use Rattle.kfs_posix.proofs.Held.{world_in, file_is, descriptor_is, with_file_desk, file_holds, moved_knows, content_known}
 use Rattle.kfs_posix.proofs.ReadGoes.{file_bytes}
@@ -46,7 +46,7 @@ use Rattle.kfs_posix.proofs.WriteGoes.{Puts}
 use Rattle.kfs_posix.proofs.Going.{spare, idle_goes}
 use Rattle.kfs_posix.proofs.Calls.{stands_of}
 
-abbrev pub space_of : Book → Space
+abbrev pub space_of : Volume → Space
 space_of b = record { keys = b.keys; pages = b.pages; charge = b.charge; chunks = b.chunks }
 
 -- a writer is looked up, and then writes
@@ -59,7 +59,7 @@ looked_up (Some it) f = by (not it.1.write)
     by false = refl
 
 -- the room that the tree takes is what is counted
-module _ (old : Book) (live : Live) (sh : ShowsLive old live) where
+module _ (old : Volume) (live : Live) (sh : ShowsLive old live) where
   abbrev t : Tree
   t = live.world.tree
 
@@ -79,7 +79,7 @@ module _ (old : Book) (live : Live) (sh : ShowsLive old live) where
   pub pages_fit : chunks t ≤ old.pages
   pages_fit = let h = parts.1 in grind (arith, nat_tests)
 
-module _ (old : Book) (fd : ℕ) (given : List ℕ) where
+module _ (old : Volume) (fd : ℕ) (given : List ℕ) where
   abbrev o : Opens
   o = old.files
 

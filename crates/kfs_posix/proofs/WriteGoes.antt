@@ -18,7 +18,7 @@ use Rattle.kfs_core.proofs.FileEffects.{put_numbers, length_ready, length_few, n
 use Rattle.kfs_core.proofs.FileFaults.{write_falls}
 use Rattle.kfs_posix.specs.Opens.{Opens, desk_of}
 use Rattle.kfs_posix.specs.Holding.{Holds}
-use Rattle.kfs_posix.specs.Book.{Book, limits_of, cause_of}
+use Rattle.kfs_posix.specs.Volume.{Volume, limits_of, cause_of}
 use Rattle.kfs_posix.specs.Showing.{ShowsLive, IsWhole, GoesOn}
 use Rattle.kfs_posix.proofs.Changing.{IsPut, change_shown, sees, to_save}
 use Rattle.kfs_posix.proofs.Going.{Fell, spare, spare_free, as_before, as_after, change_goes_at, fall_goes, Refuses}
@@ -27,7 +27,7 @@ use Rattle.kfs_posix.proofs.Fault.{SameMachine}
 use Rattle.kfs_core.specs.declared.fault.CoreFault.TheVariants.{Device}
 
 -- what the call does to the tree that is shown: the file n gets the given bytes from p on
-pub record Puts (old : Book) (n size p : ℕ) (given : List ℕ) (call : Call) (reply : Reply) (files : Opens) (live : Live) : Type 0 where
+pub record Puts (old : Volume) (n size p : ℕ) (given : List ℕ) (call : Call) (reply : Reply) (files : Opens) (live : Live) : Type 0 where
   pub bytes : List ℕ
   pub file : node_of live.world.tree n ≡ Some (File bytes)
   pub size_is : size ≡ length bytes
@@ -43,7 +43,7 @@ pub keeps : (r : Tx) (b : Bool) → SameBounds r.machine (cond b (committed r) r
 keeps r true = (record { most_cuts = refl; most_faults = refl; room_keys = refl; room_pages = refl }, record { up = refl; cuts = refl; faults = refl })
 keeps r false = (record { most_cuts = refl; most_faults = refl; room_keys = refl; room_pages = refl }, record { up = refl; cuts = refl; faults = refl })
 
-module _ (old : Book) (n size p : ℕ) (given : List ℕ) (call : Call) (reply : Reply) (files : Opens) (count : old.tx.changes + 1 < 2 ^ 63) where
+module _ (old : Volume) (n size p : ℕ) (given : List ℕ) (call : Call) (reply : Reply) (files : Opens) (count : old.tx.changes + 1 < 2 ^ 63) where
   abbrev more : ℕ
   more = chunks_for (grown size p (length given)) - chunks_for size
 
@@ -106,7 +106,7 @@ module _ (old : Book) (n size p : ℕ) (given : List ℕ) (call : Call) (reply :
         let tree = with_node live.world.tree n (File (written it.bytes p given)) in
         (record { tree = tree; desk = desk_of files }, it.step_is, it.weighs, change_shown old live sh (r size) tree w put.next (old.charge + more) (old.chunks + more) plan.put_is plan.charged plan.chunked files it.holds))
 
-  pub wrote_falls : (new : Book) (fault : DeviceFault) → old.down ≡ None → new.down ≡ Some (cause_of fault) → limits_of new ≡ limits_of old → ((world : World) (cause : Cause) → can_fail world call cause ≡ true)
+  pub wrote_falls : (new : Volume) (fault : DeviceFault) → old.down ≡ None → new.down ≡ Some (cause_of fault) → limits_of new ≡ limits_of old → ((world : World) (cause : Cause) → can_fail world call cause ≡ true)
       → ((live : Live) → ShowsLive old live → Puts old n size p given call reply files live)
       → WriteFault old.tx n size p given fault new.tx.machine → Refuses old call (Device fault) new
   wrote_falls new fault up down same can puts_at h = fall_goes old new call fault up down same (λ live sh.

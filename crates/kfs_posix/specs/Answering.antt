@@ -12,7 +12,7 @@ use Rattle.kfs_path.specs.declared.call.Reply.TheVariants.{Down, Off, Err}
 use Rattle.kfs_core.specs.declared.fault.CoreFault.{CoreFault}
 use Rattle.kfs_core.specs.declared.fault.CoreFault.TheVariants.{No, Device}
 use Rattle.kfs_core.specs.Starting.{IsOutside}
-use Rattle.kfs_posix.specs.Book.{Book, cause_of}
+use Rattle.kfs_posix.specs.Volume.{Volume, cause_of}
 
 -- the cuts rose exactly where it is down by a cut, the faults exactly where it is down by a fault
 abbrev pub Counts : Machine → Reply → Machine → Type 0
@@ -31,7 +31,7 @@ Asks (Work operations) reply asked = AsksWork operations reply asked
 Asks call reply asked = Unit {0}
 
 -- it goes down exactly at an answer that says so, answers so while it is down, and keeps the cause
-abbrev pub KeepsCause : Book → Reply → Book → Type 0
+abbrev pub KeepsCause : Volume → Reply → Volume → Type 0
 KeepsCause old (Down cause) new = (old.down ≡ None) × (new.down ≡ Some cause)
 KeepsCause old Off new = IsSome old.down × (new ≡ old)
 KeepsCause old reply new = (old.down ≡ None) × (new.down ≡ None)

@@ -1,4 +1,4 @@
-pub mod Book
+pub mod Volume
 pub mod Looking
 pub mod Showing
 pub mod Mounting

@@ -3,7 +3,7 @@ use Rattle.std.specs.Prelude.{ℕ, ◌≡◌}
 use Rattle.kv_device.specs.Machine.{Machine}
 use Rattle.kfs_model.specs.Tree.{Tree, Limits}
 use Rattle.kfs_model.specs.Life.{Past, tree_at, up_at}
-use Rattle.kfs_posix.specs.Book.{Book}
+use Rattle.kfs_posix.specs.Volume.{Volume}
 use Rattle.kfs_posix.specs.Showing.{ShowsLive, IsSaved}
 
 abbrev pub limits_in : Machine → Limits
@@ -14,5 +14,5 @@ abbrev pub IsStored : Machine → Tree → ℕ → Type 0
 IsStored m t k = IsSaved (limits_in m) m.stable t k
 
 -- whatever it holds, the session goes on from there
-pub record Mounts (old : Machine) (new : Book) : Type 0 where
+pub record Mounts (old : Machine) (new : Volume) : Type 0 where
   pub each : (past : Past) (k : ℕ) → IsStored old (tree_at past k) k → (new.tx.changes ≡ k) × ShowsLive new (up_at past k)

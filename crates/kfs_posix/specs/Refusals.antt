@@ -12,7 +12,7 @@ use Rattle.kfs_core.specs.Making.{MkdirFails}
 use Rattle.kfs_core.specs.Room.{space_in}
 use Rattle.kfs_core.specs.Working.{WorkFails}
 use Rattle.kfs_posix.specs.Opens.{Opens}
-use Rattle.kfs_posix.specs.Book.{book_of}
+use Rattle.kfs_posix.specs.Volume.{volume_of}
 use Rattle.kfs_posix.specs.Answering.{IsAnswerable}
 use Rattle.kfs_posix.specs.Showing.{ShowsLive}
 use Rattle.kfs_posix.specs.Closing.{CloseDoes}
@@ -24,7 +24,7 @@ use Rattle.kfs_posix.specs.Writing.{FdWriteDoes, PwriteDoes, writable_in, writab
 
 -- an up session shows this live state, and its numbers have room for a call
 pub record Serves (k : KfsState) (o : Opens) (live : Live) : Type 0 where
-  pub shows : ShowsLive (book_of k o None) live
+  pub shows : ShowsLive (volume_of k o None) live
   pub age : age_of k.running < 2 ^ 63 - 2 ^ 40
 
 -- whatever an up session shows, what may fail so fails by an error of the call, or since power, the device or memory was missing

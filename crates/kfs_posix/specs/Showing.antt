@@ -10,7 +10,7 @@ use Rattle.kfs_model.specs.Life.{State, Live, Now, Up, Down, Past, tree_at, Even
 use Rattle.kfs_shows.specs.Shows.{Shows}
 use Rattle.kfs_tx.specs.Tx.{seen}
 use Rattle.kfs_core.specs.Bounds.{IsLight}
-use Rattle.kfs_posix.specs.Book.{Book, limits_of}
+use Rattle.kfs_posix.specs.Volume.{Volume, limits_of}
 use Rattle.kfs_posix.specs.Opens.{desk_of}
 use Rattle.kfs_posix.specs.Holding.{Holds}
 
@@ -35,7 +35,7 @@ pub record IsWhole (k : Limits) (m : Objects) (t : Tree) (n : ℕ) : Type 0 wher
   pub room : has_room k (named t) ≡ true
 
 -- an up session: the transaction's view shows the live tree, and `stable` the tree at mark
-pub record ShowsLive (b : Book) (live : Live) : Type 0 where
+pub record ShowsLive (b : Volume) (live : Live) : Type 0 where
   pub up : b.down ≡ None
   pub tree : IsTree live.world.tree
   pub low : live.world.tree.next < 2 ^ 63
@@ -58,7 +58,7 @@ pub record ShowsLive (b : Book) (live : Live) : Type 0 where
   pub room : has_room (limits_of b) live.world.tree ≡ true
 
 -- a session that is down: `stable` shows the tree after k changes, for a k that may stand
-pub record ShowsDown (b : Book) (past : Past) (may : List ℕ) : Type 0 where
+pub record ShowsDown (b : Volume) (past : Past) (may : List ℕ) : Type 0 where
   pub cause : Cause
   pub down : b.down ≡ Some cause
   pub stands : ℕ
@@ -67,19 +67,19 @@ pub record ShowsDown (b : Book) (past : Past) (may : List ℕ) : Type 0 where
   pub keys : b.keys ≡ b.tx.machine.room_keys
   pub pages : b.pages ≡ b.tx.machine.room_pages
 
-abbrev pub ShowsNow : Book → Now → Type 0
+abbrev pub ShowsNow : Volume → Now → Type 0
 ShowsNow b (Up live) = ShowsLive b live
 ShowsNow b (Down past may) = ShowsDown b past may
 
 -- a session that is up shows some live state
-abbrev pub IsShowing : Book → Type 0
+abbrev pub IsShowing : Volume → Type 0
 IsShowing b = b.down ≡ None → ∥ ((live : Live) × ShowsLive b live) ∥₁
 
 abbrev pub one_if : Bool → ℕ
 one_if armed = if armed then 1 else 0
 
 -- a cut is planned exactly where the life has one armed, and a fault at most there
-pub record ShowsState (b : Book) (s : State) : Type 0 where
+pub record ShowsState (b : Volume) (s : State) : Type 0 where
   pub now : ShowsNow b s.now
   pub cuts : b.tx.machine.most_cuts ≡ b.tx.machine.cuts + one_if s.cut_armed
   pub faults : b.tx.machine.most_faults ≤ b.tx.machine.faults + one_if s.fail_armed
@@ -89,12 +89,12 @@ pub record ShowsState (b : Book) (s : State) : Type 0 where
   pub few_faults : b.tx.machine.most_faults < 2 ^ 63
 
 -- the state is shown, and a cut or a fault is armed wherever that count may rise
-pub record Fits (b : Book) (s : State) : Type 0 where
+pub record Fits (b : Volume) (s : State) : Type 0 where
   pub now : ShowsNow b s.now
   pub cuts : one_more b.tx.machine.cuts ≤ b.tx.machine.most_cuts → s.cut_armed ≡ true
   pub faults : one_more b.tx.machine.faults ≤ b.tx.machine.most_faults → s.fail_armed ≡ true
 
 -- the line and its answer lead from each state that fits old to one that new shows; where exactly what is planned
 -- was armed, so it is then
-pub record GoesOn (old : Book) (line : Line) (answer : Answer) (new : Book) : Type 0 where
+pub record GoesOn (old : Volume) (line : Line) (answer : Answer) (new : Volume) : Type 0 where
   pub each : (s : State) → Fits old s → (t : State) × Event (limits_of old) s line answer t × ShowsNow new t.now × (ShowsState old s → ShowsState new t)

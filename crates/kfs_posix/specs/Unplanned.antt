@@ -8,7 +8,7 @@ use Rattle.kfs_model.specs.declared.Answer.TheVariants as answers
 use Rattle.kfs_model.specs.Life.{State}
 use Rattle.kfs_step_laws.specs.Plain.{PlainAnswer}
 use Rattle.kfs_posix.specs.Answering.{Counts}
-use Rattle.kfs_posix.specs.Book.{Book, limits_of}
+use Rattle.kfs_posix.specs.Volume.{Volume, limits_of}
 use Rattle.kfs_posix.specs.Showing.{ShowsState, GoesOn}
 
 -- no cut and no fault can come
@@ -20,6 +20,6 @@ pub record IsUnplanned (m : Machine) : Type 0 where
 -- that is down by `off`, in each state that the session shows
 abbrev pub CallsFailUnplannedByMemoryAlone : Type 0
 CallsFailUnplannedByMemoryAlone =
-    (old new : Book) (call : Call) (reply : Reply)
+    (old new : Volume) (call : Call) (reply : Reply)
     → GoesOn old (lines.Call call) (answers.Reply reply) new → Counts old.tx.machine reply new.tx.machine → IsUnplanned old.tx.machine
     → (s : State) → ShowsState old s → PlainAnswer (limits_of old) s.now (lines.Call call) (answers.Reply reply)

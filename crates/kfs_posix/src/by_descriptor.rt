@@ -18,16 +18,16 @@ impl<D: Device> Session<D> {
     ghost use Rattle.kfs_path.specs.declared.call.Data.TheVariants as payload;
     ghost use Rattle.kfs_model.specs.declared.Line.TheVariants as lines;
     ghost use Rattle.kfs_model.specs.declared.Answer.TheVariants as answers;
-    ghost use Rattle.kfs_posix.specs.Book.{running_in, limits_of};
+    ghost use Rattle.kfs_posix.specs.Volume.{running_in, limits_of};
     ghost use Rattle.kfs_posix.specs.Showing.{GoesOn};
 
     /// Closes a descriptor; a node without a name goes with the last description that has it.
     pub fn close(&mut self, alloc: Global, fd: u32) -> Reply
         requires { age_of (running_in self.old) < 2 ^ 63 - 2 ^ 40 }
-        ensures goes_on { GoesOn self.old.book (lines.Call (calls.Close fd)) (answers.Reply result) self.new.book }
-        ensures counts { Counts self.old.book.tx.machine result self.new.book.tx.machine }
-        ensures room { limits_of self.new.book ≡ limits_of self.old.book }
-        ensures down { KeepsCause self.old.book result self.new.book }
+        ensures goes_on { GoesOn self.old.volume (lines.Call (calls.Close fd)) (answers.Reply result) self.new.volume }
+        ensures counts { Counts self.old.volume.tx.machine result self.new.volume.tx.machine }
+        ensures room { limits_of self.new.volume ≡ limits_of self.old.volume }
+        ensures down { KeepsCause self.old.volume result self.new.volume }
         ensures age { Aged (running_in self.old) (running_in self.new) (2 ^ 38) }
     {
         if self.down.is_some() {
@@ -41,10 +41,10 @@ impl<D: Device> Session<D> {
 
     /// Shares a descriptor's description with the lowest free descriptor. It takes no memory.
     pub fn dup(&mut self, fd: u32) -> Reply
-        ensures goes_on { GoesOn self.old.book (lines.Call (calls.Dup fd)) (answers.Reply result) self.new.book }
-        ensures counts { Counts self.old.book.tx.machine result self.new.book.tx.machine }
-        ensures room { limits_of self.new.book ≡ limits_of self.old.book }
-        ensures down { KeepsCause self.old.book result self.new.book }
+        ensures goes_on { GoesOn self.old.volume (lines.Call (calls.Dup fd)) (answers.Reply result) self.new.volume }
+        ensures counts { Counts self.old.volume.tx.machine result self.new.volume.tx.machine }
+        ensures room { limits_of self.new.volume ≡ limits_of self.old.volume }
+        ensures down { KeepsCause self.old.volume result self.new.volume }
         ensures age { Aged (running_in self.old) (running_in self.new) (2 ^ 38) }
     {
         if self.down.is_some() {
@@ -55,10 +55,10 @@ impl<D: Device> Session<D> {
 
     /// Moves a descriptor's offset, and answers it. It takes no memory.
     pub fn lseek(&mut self, fd: u32, whence: Whence, offset: i64) -> Reply
-        ensures goes_on { GoesOn self.old.book (lines.Call (calls.Lseek fd whence offset)) (answers.Reply result) self.new.book }
-        ensures counts { Counts self.old.book.tx.machine result self.new.book.tx.machine }
-        ensures room { limits_of self.new.book ≡ limits_of self.old.book }
-        ensures down { KeepsCause self.old.book result self.new.book }
+        ensures goes_on { GoesOn self.old.volume (lines.Call (calls.Lseek fd whence offset)) (answers.Reply result) self.new.volume }
+        ensures counts { Counts self.old.volume.tx.machine result self.new.volume.tx.machine }
+        ensures room { limits_of self.new.volume ≡ limits_of self.old.volume }
+        ensures down { KeepsCause self.old.volume result self.new.volume }
         ensures age { Aged (running_in self.old) (running_in self.new) (2 ^ 38) }
     {
         if self.down.is_some() {
@@ -69,10 +69,10 @@ impl<D: Device> Session<D> {
 
     /// What a descriptor has open.
     pub fn fstat(&mut self, _alloc: Global, fd: u32) -> Reply
-        ensures goes_on { GoesOn self.old.book (lines.Call (calls.Fstat fd)) (answers.Reply result) self.new.book }
-        ensures counts { Counts self.old.book.tx.machine result self.new.book.tx.machine }
-        ensures room { limits_of self.new.book ≡ limits_of self.old.book }
-        ensures down { KeepsCause self.old.book result self.new.book }
+        ensures goes_on { GoesOn self.old.volume (lines.Call (calls.Fstat fd)) (answers.Reply result) self.new.volume }
+        ensures counts { Counts self.old.volume.tx.machine result self.new.volume.tx.machine }
+        ensures room { limits_of self.new.volume ≡ limits_of self.old.volume }
+        ensures down { KeepsCause self.old.volume result self.new.volume }
         ensures age { Aged (running_in self.old) (running_in self.new) (2 ^ 38) }
     {
         if self.down.is_some() {
@@ -84,10 +84,10 @@ impl<D: Device> Session<D> {
     /// Commits all changes, for a descriptor that is open.
     pub fn fsync(&mut self, alloc: Global, fd: u32) -> Reply
         requires { age_of (running_in self.old) < 2 ^ 63 - 2 ^ 40 }
-        ensures goes_on { GoesOn self.old.book (lines.Call (calls.Fsync fd)) (answers.Reply result) self.new.book }
-        ensures counts { Counts self.old.book.tx.machine result self.new.book.tx.machine }
-        ensures room { limits_of self.new.book ≡ limits_of self.old.book }
-        ensures down { KeepsCause self.old.book result self.new.book }
+        ensures goes_on { GoesOn self.old.volume (lines.Call (calls.Fsync fd)) (answers.Reply result) self.new.volume }
+        ensures counts { Counts self.old.volume.tx.machine result self.new.volume.tx.machine }
+        ensures room { limits_of self.new.volume ≡ limits_of self.old.volume }
+        ensures down { KeepsCause self.old.volume result self.new.volume }
         ensures age { Aged (running_in self.old) (running_in self.new) (2 ^ 38) }
     {
         if self.down.is_some() {
@@ -105,10 +105,10 @@ impl<D: Device> Session<D> {
     /// Reads from the offset on, at most so many bytes, and moves the offset behind them.
     pub fn read(&mut self, alloc: Global, fd: u32, count: u32) -> Reply
         requires { age_of (running_in self.old) < 2 ^ 63 - 2 ^ 40 }
-        ensures goes_on { GoesOn self.old.book (lines.Call (calls.Read fd count)) (answers.Reply result) self.new.book }
-        ensures counts { Counts self.old.book.tx.machine result self.new.book.tx.machine }
-        ensures room { limits_of self.new.book ≡ limits_of self.old.book }
-        ensures down { KeepsCause self.old.book result self.new.book }
+        ensures goes_on { GoesOn self.old.volume (lines.Call (calls.Read fd count)) (answers.Reply result) self.new.volume }
+        ensures counts { Counts self.old.volume.tx.machine result self.new.volume.tx.machine }
+        ensures room { limits_of self.new.volume ≡ limits_of self.old.volume }
+        ensures down { KeepsCause self.old.volume result self.new.volume }
         ensures age { Aged (running_in self.old) (running_in self.new) (2 ^ 38) }
     {
         if self.down.is_some() {
@@ -123,10 +123,10 @@ impl<D: Device> Session<D> {
     /// Reads from a given place on, at most so many bytes.
     pub fn pread(&mut self, alloc: Global, fd: u32, count: u32, offset: i64) -> Reply
         requires { age_of (running_in self.old) < 2 ^ 63 - 2 ^ 40 }
-        ensures goes_on { GoesOn self.old.book (lines.Call (calls.Pread fd count offset)) (answers.Reply result) self.new.book }
-        ensures counts { Counts self.old.book.tx.machine result self.new.book.tx.machine }
-        ensures room { limits_of self.new.book ≡ limits_of self.old.book }
-        ensures down { KeepsCause self.old.book result self.new.book }
+        ensures goes_on { GoesOn self.old.volume (lines.Call (calls.Pread fd count offset)) (answers.Reply result) self.new.volume }
+        ensures counts { Counts self.old.volume.tx.machine result self.new.volume.tx.machine }
+        ensures room { limits_of self.new.volume ≡ limits_of self.old.volume }
+        ensures down { KeepsCause self.old.volume result self.new.volume }
         ensures age { Aged (running_in self.old) (running_in self.new) (2 ^ 38) }
     {
         if self.down.is_some() {
@@ -141,10 +141,10 @@ impl<D: Device> Session<D> {
     /// Writes as many of the bytes as fit at the offset, or at the file's end in append mode, and answers how many.
     pub fn write(&mut self, alloc: Global, fd: u32, bytes: &[u8]) -> Reply
         requires { age_of (running_in self.old) < 2 ^ 63 - 2 ^ 40 }
-        ensures goes_on { GoesOn self.old.book (lines.Call (calls.Write fd (payload.Plain bytes.now))) (answers.Reply result) self.new.book }
-        ensures counts { Counts self.old.book.tx.machine result self.new.book.tx.machine }
-        ensures room { limits_of self.new.book ≡ limits_of self.old.book }
-        ensures down { KeepsCause self.old.book result self.new.book }
+        ensures goes_on { GoesOn self.old.volume (lines.Call (calls.Write fd (payload.Plain bytes.now))) (answers.Reply result) self.new.volume }
+        ensures counts { Counts self.old.volume.tx.machine result self.new.volume.tx.machine }
+        ensures room { limits_of self.new.volume ≡ limits_of self.old.volume }
+        ensures down { KeepsCause self.old.volume result self.new.volume }
         ensures age { Aged (running_in self.old) (running_in self.new) (2 ^ 38) }
     {
         if self.down.is_some() {
@@ -159,10 +159,10 @@ impl<D: Device> Session<D> {
     /// Writes as many of the bytes as fit at a given place, and answers how many.
     pub fn pwrite(&mut self, alloc: Global, fd: u32, bytes: &[u8], offset: i64) -> Reply
         requires { age_of (running_in self.old) < 2 ^ 63 - 2 ^ 40 }
-        ensures goes_on { GoesOn self.old.book (lines.Call (calls.Pwrite fd (payload.Plain bytes.now) offset)) (answers.Reply result) self.new.book }
-        ensures counts { Counts self.old.book.tx.machine result self.new.book.tx.machine }
-        ensures room { limits_of self.new.book ≡ limits_of self.old.book }
-        ensures down { KeepsCause self.old.book result self.new.book }
+        ensures goes_on { GoesOn self.old.volume (lines.Call (calls.Pwrite fd (payload.Plain bytes.now) offset)) (answers.Reply result) self.new.volume }
+        ensures counts { Counts self.old.volume.tx.machine result self.new.volume.tx.machine }
+        ensures room { limits_of self.new.volume ≡ limits_of self.old.volume }
+        ensures down { KeepsCause self.old.volume result self.new.volume }
         ensures age { Aged (running_in self.old) (running_in self.new) (2 ^ 38) }
     {
         if self.down.is_some() {
@@ -178,10 +178,10 @@ impl<D: Device> Session<D> {
     /// isn't open for writing, EINVAL where negative, EFBIG above 1,048,576, ENOSPC without room.
     pub fn ftruncate(&mut self, alloc: Global, fd: u32, length: i64) -> Reply
         requires { age_of (running_in self.old) < 2 ^ 63 - 2 ^ 40 }
-        ensures goes_on { GoesOn self.old.book (lines.Call (calls.Ftruncate fd length)) (answers.Reply result) self.new.book }
-        ensures counts { Counts self.old.book.tx.machine result self.new.book.tx.machine }
-        ensures room { limits_of self.new.book ≡ limits_of self.old.book }
-        ensures down { KeepsCause self.old.book result self.new.book }
+        ensures goes_on { GoesOn self.old.volume (lines.Call (calls.Ftruncate fd length)) (answers.Reply result) self.new.volume }
+        ensures counts { Counts self.old.volume.tx.machine result self.new.volume.tx.machine }
+        ensures room { limits_of self.new.volume ≡ limits_of self.old.volume }
+        ensures down { KeepsCause self.old.volume result self.new.volume }
         ensures age { Aged (running_in self.old) (running_in self.new) (2 ^ 38) }
     {
         if self.down.is_some() {
@@ -196,10 +196,10 @@ impl<D: Device> Session<D> {
     /// Writes the bytes of a call.
     pub(crate) fn write_data(&mut self, alloc: Global, fd: u32, given: &Data) -> Reply
         requires { age_of (running_in self.old) < 2 ^ 63 - 2 ^ 40 }
-        ensures goes_on { GoesOn self.old.book (lines.Call (calls.Write fd given.now)) (answers.Reply result) self.new.book }
-        ensures counts { Counts self.old.book.tx.machine result self.new.book.tx.machine }
-        ensures room { limits_of self.new.book ≡ limits_of self.old.book }
-        ensures down { KeepsCause self.old.book result self.new.book }
+        ensures goes_on { GoesOn self.old.volume (lines.Call (calls.Write fd given.now)) (answers.Reply result) self.new.volume }
+        ensures counts { Counts self.old.volume.tx.machine result self.new.volume.tx.machine }
+        ensures room { limits_of self.new.volume ≡ limits_of self.old.volume }
+        ensures down { KeepsCause self.old.volume result self.new.volume }
         ensures age { Aged (running_in self.old) (running_in self.new) (2 ^ 38) }
     {
         match given {
@@ -219,10 +219,10 @@ impl<D: Device> Session<D> {
     /// Writes the bytes of a call at a given place.
     pub(crate) fn pwrite_data(&mut self, alloc: Global, fd: u32, given: &Data, offset: i64) -> Reply
         requires { age_of (running_in self.old) < 2 ^ 63 - 2 ^ 40 }
-        ensures goes_on { GoesOn self.old.book (lines.Call (calls.Pwrite fd given.now offset)) (answers.Reply result) self.new.book }
-        ensures counts { Counts self.old.book.tx.machine result self.new.book.tx.machine }
-        ensures room { limits_of self.new.book ≡ limits_of self.old.book }
-        ensures down { KeepsCause self.old.book result self.new.book }
+        ensures goes_on { GoesOn self.old.volume (lines.Call (calls.Pwrite fd given.now offset)) (answers.Reply result) self.new.volume }
+        ensures counts { Counts self.old.volume.tx.machine result self.new.volume.tx.machine }
+        ensures room { limits_of self.new.volume ≡ limits_of self.old.volume }
+        ensures down { KeepsCause self.old.volume result self.new.volume }
         ensures age { Aged (running_in self.old) (running_in self.new) (2 ^ 38) }
     {
         match given {

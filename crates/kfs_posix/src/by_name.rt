@@ -14,16 +14,16 @@ impl<D: Device> Session<D> {
     ghost use Rattle.kfs_path.specs.declared.call.Call.TheVariants as calls;
     ghost use Rattle.kfs_model.specs.declared.Line.TheVariants as lines;
     ghost use Rattle.kfs_model.specs.declared.Answer.TheVariants as answers;
-    ghost use Rattle.kfs_posix.specs.Book.{running_in, limits_of};
+    ghost use Rattle.kfs_posix.specs.Volume.{running_in, limits_of};
     ghost use Rattle.kfs_posix.specs.Showing.{GoesOn};
 
     /// Takes a file's name away.
     pub fn unlink(&mut self, alloc: Global, path: &[u8]) -> Reply
         requires { age_of (running_in self.old) < 2 ^ 63 - 2 ^ 40 }
-        ensures goes_on { GoesOn self.old.book (lines.Call (calls.Unlink path.now)) (answers.Reply result) self.new.book }
-        ensures counts { Counts self.old.book.tx.machine result self.new.book.tx.machine }
-        ensures room { limits_of self.new.book ≡ limits_of self.old.book }
-        ensures down { KeepsCause self.old.book result self.new.book }
+        ensures goes_on { GoesOn self.old.volume (lines.Call (calls.Unlink path.now)) (answers.Reply result) self.new.volume }
+        ensures counts { Counts self.old.volume.tx.machine result self.new.volume.tx.machine }
+        ensures room { limits_of self.new.volume ≡ limits_of self.old.volume }
+        ensures down { KeepsCause self.old.volume result self.new.volume }
         ensures age { Aged (running_in self.old) (running_in self.new) (2 ^ 38) }
     {
         if self.down.is_some() {
@@ -38,10 +38,10 @@ impl<D: Device> Session<D> {
     /// Takes an empty directory's name away.
     pub fn rmdir(&mut self, alloc: Global, path: &[u8]) -> Reply
         requires { age_of (running_in self.old) < 2 ^ 63 - 2 ^ 40 }
-        ensures goes_on { GoesOn self.old.book (lines.Call (calls.Rmdir path.now)) (answers.Reply result) self.new.book }
-        ensures counts { Counts self.old.book.tx.machine result self.new.book.tx.machine }
-        ensures room { limits_of self.new.book ≡ limits_of self.old.book }
-        ensures down { KeepsCause self.old.book result self.new.book }
+        ensures goes_on { GoesOn self.old.volume (lines.Call (calls.Rmdir path.now)) (answers.Reply result) self.new.volume }
+        ensures counts { Counts self.old.volume.tx.machine result self.new.volume.tx.machine }
+        ensures room { limits_of self.new.volume ≡ limits_of self.old.volume }
+        ensures down { KeepsCause self.old.volume result self.new.volume }
         ensures age { Aged (running_in self.old) (running_in self.new) (2 ^ 38) }
     {
         if self.down.is_some() {
@@ -56,10 +56,10 @@ impl<D: Device> Session<D> {
     /// Moves what a path names, with all below it, to another path, over what that names.
     pub fn rename(&mut self, alloc: Global, old: &[u8], new: &[u8]) -> Reply
         requires { age_of (running_in self.old) < 2 ^ 63 - 2 ^ 40 }
-        ensures goes_on { GoesOn self.old.book (lines.Call (calls.Rename old.now new.now)) (answers.Reply result) self.new.book }
-        ensures counts { Counts self.old.book.tx.machine result self.new.book.tx.machine }
-        ensures room { limits_of self.new.book ≡ limits_of self.old.book }
-        ensures down { KeepsCause self.old.book result self.new.book }
+        ensures goes_on { GoesOn self.old.volume (lines.Call (calls.Rename old.now new.now)) (answers.Reply result) self.new.volume }
+        ensures counts { Counts self.old.volume.tx.machine result self.new.volume.tx.machine }
+        ensures room { limits_of self.new.volume ≡ limits_of self.old.volume }
+        ensures down { KeepsCause self.old.volume result self.new.volume }
         ensures age { Aged (running_in self.old) (running_in self.new) (2 ^ 38) }
     {
         if self.down.is_some() {

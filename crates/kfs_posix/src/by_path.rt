@@ -15,16 +15,16 @@ impl<D: Device> Session<D> {
     ghost use Rattle.kfs_path.specs.declared.call.Call.TheVariants as calls;
     ghost use Rattle.kfs_model.specs.declared.Line.TheVariants as lines;
     ghost use Rattle.kfs_model.specs.declared.Answer.TheVariants as answers;
-    ghost use Rattle.kfs_posix.specs.Book.{running_in, limits_of};
+    ghost use Rattle.kfs_posix.specs.Volume.{running_in, limits_of};
     ghost use Rattle.kfs_posix.specs.Showing.{GoesOn};
 
     /// Makes a directory.
     pub fn mkdir(&mut self, alloc: Global, path: &[u8]) -> Reply
         requires { age_of (running_in self.old) < 2 ^ 63 - 2 ^ 40 }
-        ensures goes_on { GoesOn self.old.book (lines.Call (calls.Mkdir path.now)) (answers.Reply result) self.new.book }
-        ensures counts { Counts self.old.book.tx.machine result self.new.book.tx.machine }
-        ensures room { limits_of self.new.book ≡ limits_of self.old.book }
-        ensures down { KeepsCause self.old.book result self.new.book }
+        ensures goes_on { GoesOn self.old.volume (lines.Call (calls.Mkdir path.now)) (answers.Reply result) self.new.volume }
+        ensures counts { Counts self.old.volume.tx.machine result self.new.volume.tx.machine }
+        ensures room { limits_of self.new.volume ≡ limits_of self.old.volume }
+        ensures down { KeepsCause self.old.volume result self.new.volume }
         ensures age { Aged (running_in self.old) (running_in self.new) (2 ^ 38) }
     {
         if self.down.is_some() {
@@ -39,10 +39,10 @@ impl<D: Device> Session<D> {
     /// What a path names.
     pub fn stat(&mut self, alloc: Global, path: &[u8]) -> Reply
         requires { age_of (running_in self.old) < 2 ^ 63 - 2 ^ 40 }
-        ensures goes_on { GoesOn self.old.book (lines.Call (calls.Stat path.now)) (answers.Reply result) self.new.book }
-        ensures counts { Counts self.old.book.tx.machine result self.new.book.tx.machine }
-        ensures room { limits_of self.new.book ≡ limits_of self.old.book }
-        ensures down { KeepsCause self.old.book result self.new.book }
+        ensures goes_on { GoesOn self.old.volume (lines.Call (calls.Stat path.now)) (answers.Reply result) self.new.volume }
+        ensures counts { Counts self.old.volume.tx.machine result self.new.volume.tx.machine }
+        ensures room { limits_of self.new.volume ≡ limits_of self.old.volume }
+        ensures down { KeepsCause self.old.volume result self.new.volume }
         ensures age { Aged (running_in self.old) (running_in self.new) (2 ^ 38) }
     {
         if self.down.is_some() {
@@ -64,12 +64,12 @@ impl<D: Device> Session<D> {
 
     /// The names in a directory, sorted by bytes.
     pub fn list(&mut self, alloc: Global, path: &[u8]) -> Reply
-        requires room { self.old.book.keys ≤ 68544 }
+        requires room { self.old.volume.keys ≤ 68544 }
         requires age { age_of (running_in self.old) < 2 ^ 63 - 2 ^ 40 }
-        ensures goes_on { GoesOn self.old.book (lines.Call (calls.List path.now)) (answers.Reply result) self.new.book }
-        ensures counts { Counts self.old.book.tx.machine result self.new.book.tx.machine }
-        ensures room { limits_of self.new.book ≡ limits_of self.old.book }
-        ensures down { KeepsCause self.old.book result self.new.book }
+        ensures goes_on { GoesOn self.old.volume (lines.Call (calls.List path.now)) (answers.Reply result) self.new.volume }
+        ensures counts { Counts self.old.volume.tx.machine result self.new.volume.tx.machine }
+        ensures room { limits_of self.new.volume ≡ limits_of self.old.volume }
+        ensures down { KeepsCause self.old.volume result self.new.volume }
         ensures age { Aged (running_in self.old) (running_in self.new) (2 ^ 38) }
     {
         if self.down.is_some() {
@@ -84,10 +84,10 @@ impl<D: Device> Session<D> {
     /// Opens what a path names, and makes a file or cuts it to no bytes where the flags say so.
     pub fn open(&mut self, alloc: Global, path: &[u8], flags: Flags) -> Reply
         requires { age_of (running_in self.old) < 2 ^ 63 - 2 ^ 40 }
-        ensures goes_on { GoesOn self.old.book (lines.Call (calls.Open path.now flags)) (answers.Reply result) self.new.book }
-        ensures counts { Counts self.old.book.tx.machine result self.new.book.tx.machine }
-        ensures room { limits_of self.new.book ≡ limits_of self.old.book }
-        ensures down { KeepsCause self.old.book result self.new.book }
+        ensures goes_on { GoesOn self.old.volume (lines.Call (calls.Open path.now flags)) (answers.Reply result) self.new.volume }
+        ensures counts { Counts self.old.volume.tx.machine result self.new.volume.tx.machine }
+        ensures room { limits_of self.new.volume ≡ limits_of self.old.volume }
+        ensures down { KeepsCause self.old.volume result self.new.volume }
         ensures age { Aged (running_in self.old) (running_in self.new) (2 ^ 38) }
     {
         if self.down.is_some() {
@@ -104,10 +104,10 @@ impl<D: Device> Session<D> {
     /// 1,048,576, ENOSPC without room.
     pub fn truncate(&mut self, alloc: Global, path: &[u8], length: i64) -> Reply
         requires { age_of (running_in self.old) < 2 ^ 63 - 2 ^ 40 }
-        ensures goes_on { GoesOn self.old.book (lines.Call (calls.Truncate path.now length)) (answers.Reply result) self.new.book }
-        ensures counts { Counts self.old.book.tx.machine result self.new.book.tx.machine }
-        ensures room { limits_of self.new.book ≡ limits_of self.old.book }
-        ensures down { KeepsCause self.old.book result self.new.book }
+        ensures goes_on { GoesOn self.old.volume (lines.Call (calls.Truncate path.now length)) (answers.Reply result) self.new.volume }
+        ensures counts { Counts self.old.volume.tx.machine result self.new.volume.tx.machine }
+        ensures room { limits_of self.new.volume ≡ limits_of self.old.volume }
+        ensures down { KeepsCause self.old.volume result self.new.volume }
         ensures age { Aged (running_in self.old) (running_in self.new) (2 ^ 38) }
     {
         if self.down.is_some() {

@@ -6,7 +6,7 @@ ghost use Rattle.kv_device.specs.Calls.{Ages};
 ghost use Rattle.kfs_tx.specs.Tx.{age_of, Aged};
 ghost use Rattle.kfs_core.specs.Starting.{IsOutside, NotMounted};
 ghost use Rattle.kfs_posix.specs.Answering.{Asks, Counts, IsAnswerable, KeepsCause, refusal, down_after};
-ghost use Rattle.kfs_posix.specs.Book.{cause_of};
+ghost use Rattle.kfs_posix.specs.Volume.{cause_of};
 
 use crate::open_files::OpenFiles;
 use kfs_core::{CoreFault, HostFault, Kfs};
@@ -25,7 +25,7 @@ pub struct Session<D: Device> {
 }
 
 impl<D: Device> Model for Session<D> {
-    ghost use Rattle.kfs_posix.specs.Book.{SessionState, session_code, book_of, state_of};
+    ghost use Rattle.kfs_posix.specs.Volume.{SessionState, session_code, volume_of, state_of};
     ghost use Rattle.kfs_posix.specs.Showing.{IsShowing};
 
     ghost Value = { SessionState };
@@ -34,7 +34,7 @@ impl<D: Device> Model for Session<D> {
 
     ghost view = { λ s. state_of s.kfs s.files.opens s.down };
 
-    ghost invariant = { λ s. IsShowing (book_of s.kfs s.files.opens s.down) };
+    ghost invariant = { λ s. IsShowing (volume_of s.kfs s.files.opens s.down) };
 }
 
 fn cause_of(fault: &DeviceFault) -> Cause
@@ -69,7 +69,7 @@ impl<D: Device> Session<D> {
     ghost use Rattle.kfs_path.specs.declared.call.Call.TheVariants as calls;
     ghost use Rattle.kfs_model.specs.declared.Line.TheVariants as lines;
     ghost use Rattle.kfs_model.specs.declared.Answer.TheVariants as answers;
-    ghost use Rattle.kfs_posix.specs.Book.{running_in, limits_of};
+    ghost use Rattle.kfs_posix.specs.Volume.{running_in, limits_of};
     ghost use Rattle.kfs_damages.specs.Damages.{IsClear};
     ghost use Rattle.kfs_judge.specs.Judging.{heard, room_in};
     ghost use Rattle.kfs_core.specs.Clearing.{Keeps};
@@ -83,14 +83,14 @@ impl<D: Device> Session<D> {
         requires up { (D.machine device).up ≡ true }
         requires idle { (D.machine device).pending ≡ none_open }
         requires room { (D.machine device).room_keys ≤ 68544 }
-        ensures ok { IfOk result (λ s. Mounts (D.machine device) s.book) }
+        ensures ok { IfOk result (λ s. Mounts (D.machine device) s.volume) }
         ensures clear { OnOk result (IsClear (room_in (D.machine device)) (heard (D.machine device).stable)) }
-        ensures begun { IfOk result (λ s. s.book.tx.machine ≡ begun (record (D.machine device) { stable = s.book.tx.machine.stable }) 0) }
-        ensures up { IfOk result (λ s. s.book.down ≡ None) }
-        ensures shows { IfOk result (λ s. IsShowing s.book) }
-        ensures keys { IfOk result (λ s. s.book.keys ≡ (D.machine device).room_keys) }
-        ensures changes { IfOk result (λ s. s.book.tx.changes < 2 ^ 62) }
-        ensures next { IfOk result (λ s. s.book.tx.next < 2 ^ 62) }
+        ensures begun { IfOk result (λ s. s.volume.tx.machine ≡ begun (record (D.machine device) { stable = s.volume.tx.machine.stable }) 0) }
+        ensures up { IfOk result (λ s. s.volume.down ≡ None) }
+        ensures shows { IfOk result (λ s. IsShowing s.volume) }
+        ensures keys { IfOk result (λ s. s.volume.keys ≡ (D.machine device).room_keys) }
+        ensures changes { IfOk result (λ s. s.volume.tx.changes < 2 ^ 62) }
+        ensures next { IfOk result (λ s. s.volume.tx.next < 2 ^ 62) }
         ensures err { IfErr result (λ e. NotMounted (D.machine device) e.1 (D.machine e.0)) }
         ensures kept { IfErr result (λ e. Keeps (D.machine device).stable (D.machine e.0).stable) }
         ensures age { IfOk result (λ s. Ages (D.age device) s.device_age (2 ^ 38)) }
@@ -109,10 +109,10 @@ impl<D: Device> Session<D> {
     /// Commits all changes.
     pub fn sync(&mut self, alloc: Global) -> Reply
         requires { age_of (running_in self.old) < 2 ^ 63 - 2 ^ 40 }
-        ensures goes_on { GoesOn self.old.book (lines.Call calls.Sync) (answers.Reply result) self.new.book }
-        ensures counts { Counts self.old.book.tx.machine result self.new.book.tx.machine }
-        ensures room { limits_of self.new.book ≡ limits_of self.old.book }
-        ensures down { KeepsCause self.old.book result self.new.book }
+        ensures goes_on { GoesOn self.old.volume (lines.Call calls.Sync) (answers.Reply result) self.new.volume }
+        ensures counts { Counts self.old.volume.tx.machine result self.new.volume.tx.machine }
+        ensures room { limits_of self.new.volume ≡ limits_of self.old.volume }
+        ensures down { KeepsCause self.old.volume result self.new.volume }
         ensures age { Aged (running_in self.old) (running_in self.new) (2 ^ 38) }
     {
         if self.down.is_some() {
@@ -126,9 +126,9 @@ impl<D: Device> Session<D> {
 
     /// What the tree takes of the keys and the pages, and how many there are. It takes no memory.
     pub fn room(&self) -> Reply
-        ensures goes_on { GoesOn self.now.book (lines.Call calls.Room) (answers.Reply result) self.now.book }
-        ensures counts { Counts self.now.book.tx.machine result self.now.book.tx.machine }
-        ensures down { KeepsCause self.now.book result self.now.book }
+        ensures goes_on { GoesOn self.now.volume (lines.Call calls.Room) (answers.Reply result) self.now.volume }
+        ensures counts { Counts self.now.volume.tx.machine result self.now.volume.tx.machine }
+        ensures down { KeepsCause self.now.volume result self.now.volume }
     {
         if self.down.is_some() {
             return Reply::Off;
@@ -138,12 +138,12 @@ impl<D: Device> Session<D> {
 
     /// Does the call that is named.
     pub fn step(&mut self, alloc: Global, call: &Call) -> Reply
-        requires room { self.old.book.keys ≤ 68544 }
+        requires room { self.old.volume.keys ≤ 68544 }
         requires age { age_of (running_in self.old) < 2 ^ 63 - 2 ^ 40 }
-        ensures goes_on { GoesOn self.old.book (lines.Call call.now) (answers.Reply result) self.new.book }
-        ensures counts { Counts self.old.book.tx.machine result self.new.book.tx.machine }
-        ensures room { limits_of self.new.book ≡ limits_of self.old.book }
-        ensures down { KeepsCause self.old.book result self.new.book }
+        ensures goes_on { GoesOn self.old.volume (lines.Call call.now) (answers.Reply result) self.new.volume }
+        ensures counts { Counts self.old.volume.tx.machine result self.new.volume.tx.machine }
+        ensures room { limits_of self.new.volume ≡ limits_of self.old.volume }
+        ensures down { KeepsCause self.old.volume result self.new.volume }
         ensures age { Aged (running_in self.old) (running_in self.new) (2 ^ 38) }
         ensures asked { Asks call.now result self.new.asked }
     {
@@ -175,22 +175,22 @@ impl<D: Device> Session<D> {
 
     /// The cause by which it is down, where it is. While it is up it shows some live state.
     pub fn is_down(&self) -> Option<Cause>
-        ensures cause { result ≡ self.now.book.down }
-        ensures shows { IsShowing self.now.book }
+        ensures cause { result ≡ self.now.volume.down }
+        ensures shows { IsShowing self.now.volume }
     {
         self.down
     }
 
     /// How many changes there were since the format, up to the one that the session is at.
     pub fn changes(&self) -> u64
-        ensures { result ≡ self.now.book.tx.changes }
+        ensures { result ≡ self.now.volume.tx.changes }
     {
         self.kfs.changes()
     }
 
     /// Gives the device back. What was changed since the last boundary is lost.
     pub fn into_device(self) -> D
-        ensures machine { D.machine result ≡ self.book.tx.machine }
+        ensures machine { D.machine result ≡ self.volume.tx.machine }
         ensures age { D.age result ≡ self.device_age }
         ensures asked { D.asked result ≡ self.asked }
     {
@@ -206,7 +206,7 @@ impl<D: PlannedDevice> Session<D> {
     ghost use Rattle.kfs_model.specs.declared.Line.TheVariants as lines;
     ghost use Rattle.kfs_model.specs.declared.Answer.TheVariants as answers;
     ghost use Rattle.kfs_tx.specs.Tx.{age_of};
-    ghost use Rattle.kfs_posix.specs.Book.{running_in, limits_of};
+    ghost use Rattle.kfs_posix.specs.Volume.{running_in, limits_of};
     ghost use Rattle.kfs_posix.specs.Showing.{GoesOn};
 
     /// Plans a cut of power in the n-th operation from now that programs or erases. It leaves the
@@ -214,10 +214,10 @@ impl<D: PlannedDevice> Session<D> {
     pub fn plan_cut(&mut self, n: u32, how: u8)
         requires n { 1 ≤ n }
         requires how { how ≤ 3 }
-        ensures goes_on { self.old.book.tx.machine.cuts + 1 < 2 ^ 63 → GoesOn self.old.book (lines.Cut n how) (answers.Reply replies.Done) self.new.book }
-        ensures planned { self.new.book.tx.machine ≡ with_most_cuts self.old.book.tx.machine }
-        ensures room { limits_of self.new.book ≡ limits_of self.old.book }
-        ensures down { self.new.book.down ≡ self.old.book.down }
+        ensures goes_on { self.old.volume.tx.machine.cuts + 1 < 2 ^ 63 → GoesOn self.old.volume (lines.Cut n how) (answers.Reply replies.Done) self.new.volume }
+        ensures planned { self.new.volume.tx.machine ≡ with_most_cuts self.old.volume.tx.machine }
+        ensures room { limits_of self.new.volume ≡ limits_of self.old.volume }
+        ensures down { self.new.volume.down ≡ self.old.volume.down }
         ensures age { self.new.device_age ≡ self.old.device_age }
         ensures numbers { age_of (running_in self.new) ≡ age_of (running_in self.old) }
         ensures asked { self.new.asked ≡ asks_cut self.old.asked n how }
@@ -229,12 +229,12 @@ impl<D: PlannedDevice> Session<D> {
     pub fn plan_fail(&mut self, kind: u8, n: u32)
         requires n { 1 ≤ n }
         requires kind { kind ≤ 2 }
-        ensures goes_on { self.old.book.tx.machine.faults + 1 < 2 ^ 63 → GoesOn self.old.book (lines.Fail kind n) (answers.Reply replies.Done) self.new.book }
-        ensures planned { self.new.book.tx.machine ≡ with_most_faults self.old.book.tx.machine self.new.book.tx.machine.most_faults }
-        ensures fewest { self.old.book.tx.machine.faults ≤ self.new.book.tx.machine.most_faults }
-        ensures most { self.new.book.tx.machine.most_faults ≤ one_more self.old.book.tx.machine.faults }
-        ensures room { limits_of self.new.book ≡ limits_of self.old.book }
-        ensures down { self.new.book.down ≡ self.old.book.down }
+        ensures goes_on { self.old.volume.tx.machine.faults + 1 < 2 ^ 63 → GoesOn self.old.volume (lines.Fail kind n) (answers.Reply replies.Done) self.new.volume }
+        ensures planned { self.new.volume.tx.machine ≡ with_most_faults self.old.volume.tx.machine self.new.volume.tx.machine.most_faults }
+        ensures fewest { self.old.volume.tx.machine.faults ≤ self.new.volume.tx.machine.most_faults }
+        ensures most { self.new.volume.tx.machine.most_faults ≤ one_more self.old.volume.tx.machine.faults }
+        ensures room { limits_of self.new.volume ≡ limits_of self.old.volume }
+        ensures down { self.new.volume.down ≡ self.old.volume.down }
         ensures age { self.new.device_age ≡ self.old.device_age }
         ensures numbers { age_of (running_in self.new) ≡ age_of (running_in self.old) }
         ensures asked { self.new.asked ≡ asks_fault self.old.asked kind n }

@@ -10,7 +10,7 @@ use Rattle.kfs_model.specs.Tree.{Tree, Limits}
 use Rattle.kfs_model.specs.Life.{State, Down, Past, tree_at, newborn}
 use Rattle.kfs_step_laws.specs.Plain.{ArePlain, PlainAnswer, no_memory}
 use Rattle.kfs_step_laws.proofs.Plans.{goes, plainly}
-use Rattle.kfs_posix.specs.Book.{Book}
+use Rattle.kfs_posix.specs.Volume.{Volume}
 use Rattle.kfs_posix.specs.Showing.{ShowsState, IsSaved}
 use Rattle.kfs_posix.specs.Mounting.{limits_in}
 use Rattle.kfs_posix.specs.Unplanned.{IsUnplanned}
@@ -22,7 +22,7 @@ use Rattle.kfs_runner.specs.Words.{task_of}
 use Rattle.kfs_runner.specs.Outside.{Takes}
 use Rattle.kfs_runner.specs.Serving.{AreAnswers}
 use Rattle.kfs_runner.specs.Ending.{Side, Sides, Due, Answered, due, due_by, IsDue, TaskComesTo, IsWritten}
-use Rattle.kfs_runner.specs.Seats.{Seated, Mounted, Bare, ShowsBare, IsLow, shows_seat, seat_machine}
+use Rattle.kfs_runner.specs.MountPoints.{MountState, Mounted, Bare, ShowsBare, IsLow, shows_point, point_machine}
 use Rattle.kfs_runner.proofs.MountLaws.{past_of, newest}
 use Rattle.kfs_runner.specs.Complete.{NothingFailed, ArePlainAnswers, IsAnsweredWhole, IsAnsweredTooLong, EachEndIsComplete, LinesFailUnplannedByMemoryAlone, MountsFailUnplannedByMemoryAlone}
 use Rattle.kfs_runner.proofs.Coming.{due_script}
@@ -65,7 +65,7 @@ complete words old new sink sink_new status (ending, comes, written) bytes block
 abbrev unarmed : State → State
 unarmed s = record { now = s.now; cut_armed = false; fail_armed = false }
 
-unarmed_session : (b : Book) (s : State) → IsUnplanned b.tx.machine → ShowsState b s → ShowsState b (unarmed s)
+unarmed_session : (b : Volume) (s : State) → IsUnplanned b.tx.machine → ShowsState b s → ShowsState b (unarmed s)
 unarmed_session b s none shows = record {
   now = shows.now;
   cuts = omega (arith, none.cuts);
@@ -95,13 +95,13 @@ unarmed_device m s none shows = record {
   };
 }
 
-unarmed_seat : (seat : Seated) (s : State) → IsUnplanned (seat_machine seat) → shows_seat seat s → shows_seat seat (unarmed s)
-unarmed_seat (Mounted session) s none shows = unarmed_session session.book s none shows
-unarmed_seat (Bare m age rested) s none shows = unarmed_device m s none shows
+unarmed_point : (point : MountState) (s : State) → IsUnplanned (point_machine point) → shows_point point s → shows_point point (unarmed s)
+unarmed_point (Mounted session) s none shows = unarmed_session session.volume s none shows
+unarmed_point (Bare m age rested) s none shows = unarmed_device m s none shows
 
 pub lines_plain : LinesFailUnplannedByMemoryAlone
 lines_plain old new line answer all plain none s shows low whole young =
-    let went = all.each (unarmed s) (unarmed_seat old s none shows) low whole young in
+    let went = all.each (unarmed s) (unarmed_point old s none shows) low whole young in
     (went.0.now, (goes _ (unarmed s) went.0 s.now line answer (record { cut = refl; fault = refl }) plain refl went.1).0)
 
 mounted_or : (limits : Limits) (past : Past) (k : ℕ) (answer : Answer) → PlainAnswer limits (Down past (k ∷ [])) lines.Mount answer → (answer ≡ answers.Mounted k) ⊎ (answer ≡ no_memory)

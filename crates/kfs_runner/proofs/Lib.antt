@@ -5,7 +5,7 @@ pub mod Asking
 pub mod Lives
 pub mod LineSize
 pub mod LineCount
-pub mod SeatLaws
+pub mod PointLaws
 pub mod Undamaged
 pub mod MountLaws
 pub mod LoadRuns

@@ -26,7 +26,7 @@ use Rattle.kfs_model.specs.Change.{weight, is_boundary}
 use Rattle.kfs_laws.proofs.Outcomes
 use Rattle.kfs_laws.proofs.Sound.{sound, next_to}
 use Rattle.kfs_runner.specs.Young.{Low, IsYoungPast, IsYoung}
-use Rattle.kfs_runner.specs.Seats.{StandsAt, IsLow}
+use Rattle.kfs_runner.specs.MountPoints.{StandsAt, IsLow}
 use Rattle.kfs_runner.specs.Serving.{AreAnswers}
 use Rattle.kfs_runner.specs.Strikes.{is_cut, plans_cut, is_cut_planned}
 

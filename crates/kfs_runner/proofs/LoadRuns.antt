@@ -16,7 +16,7 @@ use Rattle.kfs_model.specs.Life.{State, Live, Now, Up, Event, EventAt, live_afte
 use Rattle.kfs_plain.specs.Tables.{free_number}
 use Rattle.kfs_plain.specs.Plain.{Plain, totals_of}
 use Rattle.kfs_plain.specs.declared.tree.Totals.{Totals}
-use Rattle.kfs_posix.specs.Book.{Book}
+use Rattle.kfs_posix.specs.Volume.{Volume}
 use Rattle.kfs_posix.specs.Opens.{desk_of}
 use Rattle.kfs_posix.specs.Showing.{ShowsLive, ShowsNow}
 use Rattle.kfs_load.specs.Coming.{first_live, done_call, behind_line, behind_lines, replies_to, is_error, errors_in, dones_in}
@@ -27,7 +27,7 @@ use Rattle.kfs_load.proofs.Counting.{dones_more, errors_more}
 use Rattle.kfs_load.proofs.Named.{named_all}
 use Rattle.kfs_runner.specs.declared.load.Tally.{Tally}
 use Rattle.kfs_script.specs.Script.{IsLine, is_format}
-use Rattle.kfs_runner.specs.Seats.{Seated, Mounted, Bare, IsDown, shows_seat, seat_limits}
+use Rattle.kfs_runner.specs.MountPoints.{MountState, Mounted, Bare, IsDown, shows_point, point_limits}
 use Rattle.kfs_runner.specs.Young.{IsYoung}
 use Rattle.kfs_runner.proofs.Lives.{newborn_low, event_low}
 use Rattle.kfs_runner.specs.Numbers.{limits_of, line_age}
@@ -40,7 +40,7 @@ surely : (b : Bool) → (b ≡ false → ⊥) → b ≡ true
 surely true h = refl
 surely false h = absurd (h refl)
 
-live_whole : (b : Book) (live : Live) → ShowsLive b live → live.world.desk ≡ empty_desk → live.mark ≡ live.past.count → named (tree_at live.past live.mark) ≡ live.world.tree
+live_whole : (b : Volume) (live : Live) → ShowsLive b live → live.world.desk ≡ empty_desk → live.mark ≡ live.past.count → named (tree_at live.past live.mark) ≡ live.world.tree
 live_whole b live shows closed marked =
     let none : desk_of b.files ≡ empty_desk = sym shows.desk ∙ closed in
     let all : (n : ℕ) (node : Node) → node_of live.world.tree n ≡ Some node → is_named live.world.tree n ≡ true = λ n node there. surely (is_named live.world.tree n) (λ e.
@@ -48,9 +48,9 @@ live_whole b live shows closed marked =
     ap named (ap (tree_at live.past) marked ∙ shows.newest) ∙ named_all live.world.tree all
 
 -- behind a commit with nothing open the tree is that of the mount
-seat_whole : (seat : Seated) (s : State) (live : Live) → shows_seat seat s → s.now ≡ Up live → live.world.desk ≡ empty_desk → live.mark ≡ live.past.count → named (tree_at live.past live.mark) ≡ live.world.tree
-seat_whole (Mounted session) s live shows up closed marked = live_whole session.book live (subst (ShowsNow session.book) up shows.now) closed marked
-seat_whole (Bare m age rested) s live shows up closed marked = absurd (subst IsDown up shows.down)
+point_whole : (point : MountState) (s : State) (live : Live) → shows_point point s → s.now ≡ Up live → live.world.desk ≡ empty_desk → live.mark ≡ live.past.count → named (tree_at live.past live.mark) ≡ live.world.tree
+point_whole (Mounted session) s live shows up closed marked = live_whole session.volume live (subst (ShowsNow session.volume) up shows.now) closed marked
+point_whole (Bare m age rested) s live shows up closed marked = absurd (subst IsDown up shows.down)
 
 -- ---- what holds between the lines
 
@@ -60,7 +60,7 @@ Beside (Idle b) live w tally = w ≡ live.world
 Beside Opened live w tally = w ≡ live.world
 Beside Over live w tally = (w.tree ≡ live.world.tree) × (tally.changes ≡ live.mark)
 
-pub record IsAt (k : Limits) (seat : Seated) (plain : Plain) (tally : Tally) (rest all : List Line) : Type 0 where
+pub record IsAt (k : Limits) (point : MountState) (plain : Plain) (tally : Tally) (rest all : List Line) : Type 0 where
   pub place : Place
   pub live : Live
   pub own : Live
@@ -72,8 +72,8 @@ pub record IsAt (k : Limits) (seat : Seated) (plain : Plain) (tally : Tally) (re
   pub young : IsYoung changes state.now
   pub spent : changes + length rest ≤ length all
   pub up : state.now ≡ Up own
-  pub shows : shows_seat seat state
-  pub limits : seat_limits seat ≡ k
+  pub shows : shows_point point state
+  pub limits : point_limits point ≡ k
   pub same : plain.limits ≡ k
   pub end : behind_lines k live rest ≡ behind_lines k first_live all
   pub dones : tally.dones + dones_in (replies_to k live rest) ≡ dones_in (replies_to k first_live all)
@@ -82,8 +82,8 @@ pub record IsAt (k : Limits) (seat : Seated) (plain : Plain) (tally : Tally) (re
 abbrev pub nothing : Tally
 nothing = record { dones = 0; errors = 0; changes = 0 }
 
-pub begins : (seat : Seated) (plain : Plain) (ls : List Line) → shows_seat seat newborn → plain ≡ record { world = first_live.world; limits = seat_limits seat } → Follow (Idle false) ls → IsAt (seat_limits seat) seat plain nothing ls ls
-begins seat plain ls shows is follow = record {
+pub begins : (point : MountState) (plain : Plain) (ls : List Line) → shows_point point newborn → plain ≡ record { world = first_live.world; limits = point_limits point } → Follow (Idle false) ls → IsAt (point_limits point) point plain nothing ls ls
+begins point plain ls shows is follow = record {
   place = Idle false;
   live = first_live;
   own = first_live;
@@ -105,8 +105,8 @@ begins seat plain ls shows is follow = record {
 
 -- ---- one line more
 
-abbrev pub SeatDoes : Seated → State → Line → Answer → Seated → Type 0
-SeatDoes seat s line answer new = (t : State) × Event (seat_limits seat) s line answer t × shows_seat new t × (seat_limits new ≡ seat_limits seat)
+abbrev pub PointDoes : MountState → State → Line → Answer → MountState → Type 0
+PointDoes point s line answer new = (t : State) × Event (point_limits point) s line answer t × shows_point new t × (point_limits new ≡ point_limits point)
 
 -- a call that was counted is done
 record DoneBy (k : Limits) (s : State) (own : Live) (call : Call) (t : State) (old new : Tally) : Type 0 where
@@ -143,14 +143,14 @@ errors_on : (t u : Tally) (b : Bool) (n m total : ℕ) → u ≡ counted t b →
 errors_on t u true n m total is more all = omega (arith, ap (λ (x : Tally). x.errors) is, more, all)
 errors_on t u false n m total is more all = omega (arith, ap (λ (x : Tally). x.errors) is, more, all)
 
-module _ (k : Limits) (seat new : Seated) (plain : Plain) (tally next : Tally) (rest all : List Line) (answer : Answer) where
-  happens : (line : Line) (at : IsAt k seat plain tally (line ∷ rest) all) (t : State) → Event (seat_limits seat) at.state line answer t → EventAt k at.state (Up at.own) line answer t
+module _ (k : Limits) (point new : MountState) (plain : Plain) (tally next : Tally) (rest all : List Line) (answer : Answer) where
+  happens : (line : Line) (at : IsAt k point plain tally (line ∷ rest) all) (t : State) → Event (point_limits point) at.state line answer t → EventAt k at.state (Up at.own) line answer t
   happens line at t event =
       let L : Limits → Type 0 = λ l. Event l at.state line answer t in
       let N : Now → Type 0 = λ n. EventAt k at.state n line answer t in
       subst N at.up (subst L at.limits event)
 
-  call_on : (call : Call) → (at : IsAt k seat plain tally (lines.Call call ∷ rest) all) → SeatDoes seat at.state (lines.Call call) answer new → Counts tally answer next → IsAt k new (plain_behind plain (lines.Call call)) next rest all
+  call_on : (call : Call) → (at : IsAt k point plain tally (lines.Call call ∷ rest) all) → PointDoes point at.state (lines.Call call) answer new → Counts tally answer next → IsAt k new (plain_behind plain (lines.Call call)) next rest all
   call_on call at does counts =
       let went = does in
       let done = done_by k at.state at.own call answer went.0 tally next (happens (lines.Call call) at went.0 went.1) counts in
@@ -170,7 +170,7 @@ module _ (k : Limits) (seat new : Seated) (plain : Plain) (tally next : Tally) (
         beside = beside_going goes.next (behind_line k at.live (lines.Call call)) (plain_behind plain (lines.Call call)).world next goes.going behind;
         changes = at.changes + 1;
         spent = omega (arith, at.spent);
-        young = event_low (seat_limits seat) at.changes at.state at.state.now (lines.Call call) answer went.0 at.young refl went.1;
+        young = event_low (point_limits point) at.changes at.state at.state.now (lines.Call call) answer went.0 at.young refl went.1;
         up = ap (λ (x : State). x.now) done.next;
         shows = went.2;
         limits = went.3 ∙ at.limits;
@@ -204,15 +204,15 @@ synced_at (Idle false) own live w tally rest follow held beside = absurd follow
 synced_at Opened own live w tally rest follow held beside = absurd follow
 synced_at Over own live w tally rest follow held beside = absurd follow
 
-module _ (k : Limits) (seat new : Seated) (plain : Plain) (tally next : Tally) (rest all : List Line) (answer : Answer) where
-  mount_on : (at : IsAt k seat plain tally (lines.Mount ∷ rest) all) → SeatDoes seat at.state lines.Mount answer new → Counts tally answer next → IsAt k new plain next rest all
+module _ (k : Limits) (point new : MountState) (plain : Plain) (tally next : Tally) (rest all : List Line) (answer : Answer) where
+  mount_on : (at : IsAt k point plain tally (lines.Mount ∷ rest) all) → PointDoes point at.state lines.Mount answer new → Counts tally answer next → IsAt k new plain next rest all
   mount_on at does counts =
       let went = does in
-      let done = mounted_by k at.state at.own answer went.0 tally next (happens k seat new plain tally next rest all answer lines.Mount at went.0 went.1) counts in
+      let done = mounted_by k at.state at.own answer went.0 tally next (happens k point new plain tally next rest all answer lines.Mount at went.0 went.1) counts in
       let synced = synced_at at.place at.own at.live plain.world tally rest at.follow at.held at.beside in
       let marked = synced.one.marked refl in
       let S : Live → Type 0 = λ l. at.state.now ≡ Up l in
-      let whole = seat_whole seat at.state at.live at.shows (subst S synced.one.same at.up) synced.one.closed marked in
+      let whole = point_whole point at.state at.live at.shows (subst S synced.one.same at.up) synced.one.closed marked in
       let number : next.changes ≡ at.live.mark = ap (λ (x : Tally). x.changes) done.now ∙ done.mark ∙ ap (λ (l : Live). l.mark) synced.one.same in
       let kept_dones : next.dones ≡ tally.dones = ap (λ (x : Tally). x.dones) done.now in
       let kept_errors : next.errors ≡ tally.errors = ap (λ (x : Tally). x.errors) done.now in
@@ -226,7 +226,7 @@ module _ (k : Limits) (seat new : Seated) (plain : Plain) (tally next : Tally) (
         beside = (ap (λ (w : World). w.tree) synced.world ∙ sym whole, number);
         changes = at.changes + 1;
         spent = omega (arith, at.spent);
-        young = event_low (seat_limits seat) at.changes at.state at.state.now lines.Mount answer went.0 at.young refl went.1;
+        young = event_low (point_limits point) at.changes at.state at.state.now lines.Mount answer went.0 at.young refl went.1;
         up = ap (λ (x : State). x.now) done.next;
         shows = went.2;
         limits = went.3 ∙ at.limits;
@@ -255,13 +255,13 @@ no_fail Opened kind n rest follow = follow
 no_fail Over kind n rest follow = follow
 
 -- a line was done and counted
-pub goes_on : (k : Limits) (seat new : Seated) (plain : Plain) (tally next : Tally) (line : Line) (rest all : List Line) (answer : Answer)
-    → (at : IsAt k seat plain tally (line ∷ rest) all) → SeatDoes seat at.state line answer new → Counts tally answer next → IsAt k new (plain_behind plain line) next rest all
-goes_on k seat new plain tally next (lines.Call call) rest all answer at does counts = call_on k seat new plain tally next rest all answer call at does counts
-goes_on k seat new plain tally next lines.Mount rest all answer at does counts = mount_on k seat new plain tally next rest all answer at does counts
-goes_on k seat new plain tally next (lines.Format blocks) rest all answer at does counts = absurd (no_format at.place blocks rest at.follow)
-goes_on k seat new plain tally next (lines.Cut n how) rest all answer at does counts = absurd (no_cut at.place n how rest at.follow)
-goes_on k seat new plain tally next (lines.Fail kind n) rest all answer at does counts = absurd (no_fail at.place kind n rest at.follow)
+pub goes_on : (k : Limits) (point new : MountState) (plain : Plain) (tally next : Tally) (line : Line) (rest all : List Line) (answer : Answer)
+    → (at : IsAt k point plain tally (line ∷ rest) all) → PointDoes point at.state line answer new → Counts tally answer next → IsAt k new (plain_behind plain line) next rest all
+goes_on k point new plain tally next (lines.Call call) rest all answer at does counts = call_on k point new plain tally next rest all answer call at does counts
+goes_on k point new plain tally next lines.Mount rest all answer at does counts = mount_on k point new plain tally next rest all answer at does counts
+goes_on k point new plain tally next (lines.Format blocks) rest all answer at does counts = absurd (no_format at.place blocks rest at.follow)
+goes_on k point new plain tally next (lines.Cut n how) rest all answer at does counts = absurd (no_cut at.place n how rest at.follow)
+goes_on k point new plain tally next (lines.Fail kind n) rest all answer at does counts = absurd (no_fail at.place kind n rest at.follow)
 
 -- ---- all lines were done
 
@@ -271,8 +271,8 @@ over (Idle false) live w tally follow beside = absurd follow
 over Opened live w tally follow beside = absurd follow
 over Over live w tally follow beside = beside
 
-pub ends : (k : Limits) (seat : Seated) (plain : Plain) (tally : Tally) (all : List Line) → IsAt k seat plain tally [] all → IsCounted k all tally (totals_of plain.world.tree)
-ends k seat plain tally all at =
+pub ends : (k : Limits) (point : MountState) (plain : Plain) (tally : Tally) (all : List Line) → IsAt k point plain tally [] all → IsCounted k all tally (totals_of plain.world.tree)
+ends k point plain tally all at =
     let done = over at.place at.live plain.world tally at.follow at.beside in
     record {
       dones = omega (arith, at.dones);

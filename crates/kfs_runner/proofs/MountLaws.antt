@@ -28,7 +28,7 @@ use Rattle.kfs_core.proofs.Cleared.{kept_all}
 use Rattle.kfs_posix.proofs.Mounting.{saved_still}
 use Rattle.kfs_core.specs.Starting.{NotMounted, HostCause, first_objects}
 use Rattle.kfs_posix.specs.Answering.{Counts}
-use Rattle.kfs_posix.specs.Book.{Book, SessionState, limits_of, running_in}
+use Rattle.kfs_posix.specs.Volume.{Volume, SessionState, limits_of, running_in}
 use Rattle.kfs_posix.specs.Showing.{ShowsLive, ShowsNow, ShowsState, IsSaved, GoesOn, one_if}
 use Rattle.kfs_posix.specs.Mounting.{limits_in, Mounts}
 use Rattle.kfs_runner.specs.Causes.{answer_of_host}
@@ -40,10 +40,10 @@ use Rattle.kfs_damages.specs.Damages.{IsClear}
 use Rattle.kfs_judge.specs.Judging.{heard, room_in}
 use Rattle.kssd_image.proofs.OneDamage.{damage_one}
 use Rattle.kfs_runner.proofs.Undamaged.{undamaged, clear_stored}
-use Rattle.kfs_runner.proofs.SeatLaws.{seat_stores, known_room, known_armed, limits_now, most_le, unstruck, low_counts}
+use Rattle.kfs_runner.proofs.PointLaws.{point_stores, known_room, known_armed, limits_now, most_le, unstruck, low_counts}
 use Rattle.kfs_runner.specs.Stores.{WakeCause, NotWoken, IsOutside}
 use Rattle.kfs_runner.specs.Strikes.{strikes_of, struck, is_cut, is_failure}
-use Rattle.kfs_runner.specs.Seats.{Seated, Mounted, Bare, AreArmed, StandsAt, Stores, IsDown, ShowsBare, Known, KeptBy, IsLow, IsSeatWhole, seat_rested, shows_seat, seat_limits, seat_machine, seat_age, device_age, most_of, SeatGoes}
+use Rattle.kfs_runner.specs.MountPoints.{MountState, Mounted, Bare, AreArmed, StandsAt, Stores, IsDown, ShowsBare, Known, KeptBy, IsLow, IsPointWhole, point_rested, shows_point, point_limits, point_machine, point_age, device_age, most_of, PointGoes}
 
 -- ---- a mount
 
@@ -54,7 +54,7 @@ mounts_at l s (Down old may) past k n stands is =
     (subst P (sym is) stands.1, λ i. with_now s (Up (up_at (stands.0 i) (sym is i))))
 
 -- a session shows the state that it goes on from
-shows_up : (m : Machine) (now : Objects) (s : State) (b : Book) (live : Live) → AreArmed m s → ShowsLive b live → b.tx.machine ≡ begun (record (restarted m) { stable = now }) 0 → ShowsState b (with_now s (Up live))
+shows_up : (m : Machine) (now : Objects) (s : State) (b : Volume) (live : Live) → AreArmed m s → ShowsLive b live → b.tx.machine ≡ begun (record (restarted m) { stable = now }) 0 → ShowsState b (with_now s (Up live))
 shows_up m now s b live armed shows is =
     let Cuts : Machine → Type 0 = λ x. x.most_cuts ≡ x.cuts + one_if s.cut_armed in
     let Faults : Machine → Type 0 = λ x. x.most_faults ≤ x.faults + one_if s.fail_armed in
@@ -83,42 +83,42 @@ pub newest : (t : Tree) (k : ℕ) → tree_at (past_of t k) k ≡ t
 newest t k = let none : k - k ≡ 0 = omega arith in rw none refl
 
 -- where nothing is damaged, what is known goes on
-known_up : (seat : Seated) (m now : Machine) (book : Book) → Known seat → m ≡ restarted (seat_machine seat) → IsHeld m.stable → IsClear (room_in m) (heard m.stable) → Mounts m book → book.tx.machine ≡ begun (record (restarted (seat_machine seat)) { stable = book.tx.machine.stable }) 0 → (s : State) × ShowsState book s
-known_up seat m now book known up held clear mounts begins =
+known_up : (point : MountState) (m now : Machine) (volume : Volume) → Known point → m ≡ restarted (point_machine point) → IsHeld m.stable → IsClear (room_in m) (heard m.stable) → Mounts m volume → volume.tx.machine ≡ begun (record (restarted (point_machine point)) { stable = volume.tx.machine.stable }) 0 → (s : State) × ShowsState volume s
+known_up point m now volume known up held clear mounts begins =
     let found = clear_stored m held clear in
     let past = past_of found.0 found.1 in
     let T : Tree → Type 0 = λ t. IsSaved (limits_in m) m.stable t found.1 in
     let got = mounts.each past found.1 (subst T (sym (newest found.0 found.1)) found.2) in
-    let armed = known_armed seat known in
-    (with_now armed.0 (Up (up_at past found.1)), shows_up (seat_machine seat) book.tx.machine.stable armed.0 book (up_at past found.1) armed.1 got.1 begins)
+    let armed = known_armed point known in
+    (with_now armed.0 (Up (up_at past found.1)), shows_up (point_machine point) volume.tx.machine.stable armed.0 volume (up_at past found.1) armed.1 got.1 begins)
 
 -- a mount goes on from what the device stores
-pub mount_goes : (seat : Seated) (m : Machine) (new : SessionState) (n device : ℕ) → Known seat → m ≡ restarted (seat_machine seat) → IsHeld m.stable → IsClear (room_in m) (heard m.stable) → Mounts m new.book → new.book.tx.machine ≡ begun (record m { stable = new.book.tx.machine.stable }) 0 → new.book.tx.changes < 2 ^ 62 → new.book.tx.next < 2 ^ 62 → device ≤ device_age seat + 2 ^ 20 → device ≤ 2 ^ 62 + 2 ^ 21 → Ages device new.device_age (2 ^ 38) → n ≡ new.book.tx.changes → ((damage : Damage) → damaged_in (seat_rested seat) damage → ⊥) → SeatGoes seat lines.Mount (answers.Mounted n) (Mounted new)
-mount_goes seat m new n device known up held clear mounts begins changes next woken low aged is none =
-    let P : Machine → Type 0 = λ x. Mounts x new.book in
+pub mount_goes : (point : MountState) (m : Machine) (new : SessionState) (n device : ℕ) → Known point → m ≡ restarted (point_machine point) → IsHeld m.stable → IsClear (room_in m) (heard m.stable) → Mounts m new.volume → new.volume.tx.machine ≡ begun (record m { stable = new.volume.tx.machine.stable }) 0 → new.volume.tx.changes < 2 ^ 62 → new.volume.tx.next < 2 ^ 62 → device ≤ device_age point + 2 ^ 20 → device ≤ 2 ^ 62 + 2 ^ 21 → Ages device new.device_age (2 ^ 38) → n ≡ new.volume.tx.changes → ((damage : Damage) → damaged_in (point_rested point) damage → ⊥) → PointGoes point lines.Mount (answers.Mounted n) (Mounted new)
+mount_goes point m new n device known up held clear mounts begins changes next woken low aged is none =
+    let P : Machine → Type 0 = λ x. Mounts x new.volume in
     let here = subst P up mounts in
-    let now = new.book.tx.machine.stable in
-    let machine : new.book.tx.machine ≡ begun (record (restarted (seat_machine seat)) { stable = now }) 0 = begins ∙ ap (λ (x : Machine). begun (record x { stable = now }) 0) up in
-    let cuts : new.book.tx.machine.most_cuts ≡ (seat_machine seat).most_cuts = ap (λ (x : Machine). x.most_cuts) machine in
-    let faults : new.book.tx.machine.most_faults ≡ (seat_machine seat).most_faults = ap (λ (x : Machine). x.most_faults) machine in
-    let most = most_le seat in
-    let most_new : max new.book.tx.machine.most_cuts new.book.tx.machine.most_faults ≤ seat_age seat = omega (arith, cuts, faults, most) in
-    let aged_by : new.device_age ≤ device_age seat + line_age = omega (arith, aged.bounded, woken) in
+    let now = new.volume.tx.machine.stable in
+    let machine : new.volume.tx.machine ≡ begun (record (restarted (point_machine point)) { stable = now }) 0 = begins ∙ ap (λ (x : Machine). begun (record x { stable = now }) 0) up in
+    let cuts : new.volume.tx.machine.most_cuts ≡ (point_machine point).most_cuts = ap (λ (x : Machine). x.most_cuts) machine in
+    let faults : new.volume.tx.machine.most_faults ≡ (point_machine point).most_faults = ap (λ (x : Machine). x.most_faults) machine in
+    let most = most_le point in
+    let most_new : max new.volume.tx.machine.most_cuts new.volume.tx.machine.most_faults ≤ point_age point = omega (arith, cuts, faults, most) in
+    let aged_by : new.device_age ≤ device_age point + line_age = omega (arith, aged.bounded, woken) in
     let young : new.device_age ≤ 2 ^ 62 + line_age = omega (arith, aged.bounded, low) in
-    let shown = known_up seat m m new.book known up held clear mounts machine in
+    let shown = known_up point m m new.volume known up held clear mounts machine in
     record {
       known = shown;
-      limits = limits_now new.book shown.0.now shown.1.now ∙ ap limits_in machine ∙ sym (known_room seat known);
-      age = mount_age new.device_age new.book.tx.changes new.book.tx.next new.book.tx.machine.most_cuts new.book.tx.machine.most_faults (seat_age seat) young changes next most_new;
+      limits = limits_now new.volume shown.0.now shown.1.now ∙ ap limits_in machine ∙ sym (known_room point known);
+      age = mount_age new.device_age new.volume.tx.changes new.volume.tx.next new.volume.tx.machine.most_cuts new.volume.tx.machine.most_faults (point_age point) young changes next most_new;
       device = aged_by;
-      strikes = unstruck (seat_machine seat) new.book.tx.machine (answers.Mounted n) refl refl (ap (λ (x : Machine). x.cuts) machine) (ap (λ (x : Machine). x.faults) machine);
+      strikes = unstruck (point_machine point) new.volume.tx.machine (answers.Mounted n) refl refl (ap (λ (x : Machine). x.cuts) machine) (ap (λ (x : Machine). x.faults) machine);
       whole = λ before below. tt;
       each = λ s shows at whole below.
-          let st = seat_stores seat s shows in
+          let st = point_stores point s shows in
           let got = here.each st.past st.k st.saved in (
             with_now s (Up (up_at st.past st.k)),
-            mounts_at (seat_limits seat) s s.now st.past st.k n st.stands (is ∙ got.0),
-            shows_up (seat_machine seat) now s new.book (up_at st.past st.k) st.armed got.1 machine,
+            mounts_at (point_limits point) s s.now st.past st.k n st.stands (is ∙ got.0),
+            shows_up (point_machine point) now s new.volume (up_at st.past st.k) st.armed got.1 machine,
           );
       damaged = λ damage is. absurd (none damage is);
     }
@@ -306,68 +306,68 @@ struck_by_fault old new NoMem low_cuts low_faults c =
     λ i. record { cuts = cuts i; faults = faults i }
 
 -- a mount that failed, and what it left
-falls_to : (seat : Seated) (new : Machine) (fault : HostFault) (age : ℕ) (rested : Option Rested) → Known seat → Fell (restarted (seat_machine seat)) fault new → age ≤ device_age seat + line_age
-    → ((s : State) → shows_seat seat s → IsLow s → IsSeatWhole seat → device_age seat < 2 ^ 62 → IsOutside fault)
-    → (IsSeatWhole seat → device_age seat < 2 ^ 62 → whole_in rested)
-    → ((damage : Damage) → damaged_in (seat_rested seat) damage → TellsDamage damage (answer_of_host fault) × (rested ≡ seat_rested seat))
-    → SeatGoes seat lines.Mount (answer_of_host fault) (Bare new age rested)
-falls_to seat new fault age rested known here aged outside whole_left damaged =
+falls_to : (point : MountState) (new : Machine) (fault : HostFault) (age : ℕ) (rested : Option Rested) → Known point → Fell (restarted (point_machine point)) fault new → age ≤ device_age point + line_age
+    → ((s : State) → shows_point point s → IsLow s → IsPointWhole point → device_age point < 2 ^ 62 → IsOutside fault)
+    → (IsPointWhole point → device_age point < 2 ^ 62 → whole_in rested)
+    → ((damage : Damage) → damaged_in (point_rested point) damage → TellsDamage damage (answer_of_host fault) × (rested ≡ point_rested point))
+    → PointGoes point lines.Mount (answer_of_host fault) (Bare new age rested)
+falls_to point new fault age rested known here aged outside whole_left damaged =
     let cuts = here.bounds.most_cuts in
     let faults = here.bounds.most_faults in
-    let most = most_le seat in
-    let low = low_counts seat known in
-    let m = seat_machine seat in
-    let armed = known_armed seat known in
+    let most = most_le point in
+    let low = low_counts point known in
+    let m = point_machine point in
+    let armed = known_armed point known in
     let same : limits_in new ≡ limits_in m = λ i. record { keys = here.bounds.room_keys i; pages = here.bounds.room_pages i } in
     record {
       known = (after_fault armed.0 fault, fell_armed m new armed.0 fault armed.1 here);
-      limits = same ∙ sym (known_room seat known);
+      limits = same ∙ sym (known_room point known);
       age = omega (arith, cuts, faults, most);
       device = aged;
       strikes = struck_by_fault (restarted m) new fault low.0 low.1 here.cause;
       whole = whole_left;
       each = λ s shows at whole below.
-          let st = seat_stores seat s shows in (
+          let st = point_stores point s shows in (
             after_fault s fault,
-            fell_at (seat_limits seat) m new s fault st.armed here (outside s shows at whole below),
+            fell_at (point_limits point) m new s fault st.armed here (outside s shows at whole below),
             bare_shows m new s (after_fault s fault) st here.keeps same (fell_now s fault) (fell_armed m new s fault st.armed here),
           );
       damaged = damaged;
     }
 
 -- objects that show a tree with low numbers are not refused
-not_refused : (seat : Seated) (new : Machine) (fault : HostFault) → IsHeld (seat_machine seat).stable → NotMounted (restarted (seat_machine seat)) fault new → (s : State) → shows_seat seat s → IsLow s → IsOutside fault
-not_refused seat new (Damaged damage) held not s shows low =
-    let st = seat_stores seat s shows in
+not_refused : (point : MountState) (new : Machine) (fault : HostFault) → IsHeld (point_machine point).stable → NotMounted (restarted (point_machine point)) fault new → (s : State) → shows_point point s → IsLow s → IsOutside fault
+not_refused point new (Damaged damage) held not s shows low =
+    let st = point_stores point s shows in
     let n = low st.past st.k st.stands in
-    absurd (undamaged (limits_in (seat_machine seat)) (seat_machine seat).stable (tree_at st.past st.k) st.k damage held st.saved n.0 n.1 not.cause.0)
-not_refused seat new Cut held not s shows low = tt
-not_refused seat new Eio held not s shows low = tt
-not_refused seat new NoMem held not s shows low = tt
+    absurd (undamaged (limits_in (point_machine point)) (point_machine point).stable (tree_at st.past st.k) st.k damage held st.saved n.0 n.1 not.cause.0)
+not_refused point new Cut held not s shows low = tt
+not_refused point new Eio held not s shows low = tt
+not_refused point new NoMem held not s shows low = tt
 
 -- a mount that fails leaves what the device stores
-pub mount_falls : (seat : Seated) (m new store : Machine) (fault : HostFault) (answer : Answer) (age : ℕ) (rested : Option Rested) → Known seat → m ≡ restarted (seat_machine seat) → IsHeld m.stable → NotMounted m fault new → store ≡ down new → age ≤ device_age seat + line_age → whole_in rested → ((damage : Damage) → damaged_in (seat_rested seat) damage → ⊥) → answer ≡ answer_of_host fault → SeatGoes seat lines.Mount answer (Bare store age rested)
-mount_falls seat m new store fault answer age rested known up held not rests aged whole none is =
+pub mount_falls : (point : MountState) (m new store : Machine) (fault : HostFault) (answer : Answer) (age : ℕ) (rested : Option Rested) → Known point → m ≡ restarted (point_machine point) → IsHeld m.stable → NotMounted m fault new → store ≡ down new → age ≤ device_age point + line_age → whole_in rested → ((damage : Damage) → damaged_in (point_rested point) damage → ⊥) → answer ≡ answer_of_host fault → PointGoes point lines.Mount answer (Bare store age rested)
+mount_falls point m new store fault answer age rested known up held not rests aged whole none is =
     let P : Machine → Type 0 = λ x. NotMounted x fault new in
     let H : Machine → Type 0 = λ x. IsHeld x.stable in
-    let Q : Answer → Type 0 = λ a. SeatGoes seat lines.Mount a (Bare store age rested) in
-    let R : Machine → Type 0 = λ x. Fell (restarted (seat_machine seat)) fault x in
+    let Q : Answer → Type 0 = λ a. PointGoes point lines.Mount a (Bare store age rested) in
+    let R : Machine → Type 0 = λ x. Fell (restarted (point_machine point)) fault x in
     let here = subst P up not in
     let stored = subst H up held in
-    subst Q (sym is) (falls_to seat store fault age rested known (subst R (sym rests) (fell_mounting (restarted (seat_machine seat)) new fault here)) aged
-    (λ s shows low w below. not_refused seat new fault stored here s shows low) (λ w below. whole) (λ damage at. absurd (none damage at)))
+    subst Q (sym is) (falls_to point store fault age rested known (subst R (sym rests) (fell_mounting (restarted (point_machine point)) new fault here)) aged
+    (λ s shows low w below. not_refused point new fault stored here s shows low) (λ w below. whole) (λ damage at. absurd (none damage at)))
 
 -- ---- what a session leaves, and what it was before
 
-pub kept_whole : (seat : Seated) (old : Machine) (before : Option Rested) → KeptBy seat old before → IsSeatWhole seat → whole_in before
+pub kept_whole : (point : MountState) (old : Machine) (before : Option Rested) → KeptBy point old before → IsPointWhole point → whole_in before
 kept_whole (Mounted session) old before kept whole = kept
 kept_whole (Bare m age rested) old before kept whole = subst whole_in (sym kept.1) whole
 
-pub kept_rested : (seat : Seated) (old : Machine) (before : Option Rested) (damage : Damage) → KeptBy seat old before → damaged_in (seat_rested seat) damage → before ≡ seat_rested seat
+pub kept_rested : (point : MountState) (old : Machine) (before : Option Rested) (damage : Damage) → KeptBy point old before → damaged_in (point_rested point) damage → before ≡ point_rested point
 kept_rested (Mounted session) old before damage kept is = absurd is
 kept_rested (Bare m age rested) old before damage kept is = kept.1
 
-pub kept_none : (seat : Seated) (old : Machine) (before : Option Rested) → KeptBy seat old before → ((damage : Damage) → damaged_in before damage → ⊥) → (damage : Damage) → damaged_in (seat_rested seat) damage → ⊥
+pub kept_none : (point : MountState) (old : Machine) (before : Option Rested) → KeptBy point old before → ((damage : Damage) → damaged_in before damage → ⊥) → (damage : Damage) → damaged_in (point_rested point) damage → ⊥
 kept_none (Mounted session) old before kept none damage is = is
 kept_none (Bare m age rested) old before kept none damage is = none damage (subst (λ r. damaged_in r damage) (sym kept.1) is)
 
@@ -382,16 +382,16 @@ tells rested old new Eio damage is cause = tt
 tells rested old new NoMem damage is cause = tt
 
 -- so does a device that can't be woken
-pub wake_falls : (seat : Seated) (old new : Machine) (fault : HostFault) (answer : Answer) (age_old age : ℕ) (before rested : Option Rested) → Known seat → down old ≡ down (seat_machine seat) → NotWoken before old fault new → age_old ≤ device_age seat → age ≤ device_age seat + line_age → KeptBy seat old before
+pub wake_falls : (point : MountState) (old new : Machine) (fault : HostFault) (answer : Answer) (age_old age : ℕ) (before rested : Option Rested) → Known point → down old ≡ down (point_machine point) → NotWoken before old fault new → age_old ≤ device_age point → age ≤ device_age point + line_age → KeptBy point old before
     → (whole_in before → age_old < 2 ^ 62 → IsOutside fault) → (whole_in before → age_old < 2 ^ 62 → whole_in rested) → ((damage : Damage) → damaged_in before damage → rested ≡ before) → answer ≡ answer_of_host fault
-    → SeatGoes seat lines.Mount answer (Bare new age rested)
-wake_falls seat old new fault answer age_old age before rested known rests not less aged kept outside whole stays is =
+    → PointGoes point lines.Mount answer (Bare new age rested)
+wake_falls point old new fault answer age_old age before rested known rests not less aged kept outside whole stays is =
     let P : Machine → Type 0 = λ x. Fell x fault new in
-    let Q : Answer → Type 0 = λ a. SeatGoes seat lines.Mount a (Bare new age rested) in
-    subst Q (sym is) (falls_to seat new fault age rested known (subst P (ap restarted rests) (fell_waking before old new fault not)) aged
-    (λ s shows low w below. outside (kept_whole seat old before kept w) (omega (arith, less, below)))
-    (λ w below. whole (kept_whole seat old before kept w) (omega (arith, less, below)))
+    let Q : Answer → Type 0 = λ a. PointGoes point lines.Mount a (Bare new age rested) in
+    subst Q (sym is) (falls_to point new fault age rested known (subst P (ap restarted rests) (fell_waking before old new fault not)) aged
+    (λ s shows low w below. outside (kept_whole point old before kept w) (omega (arith, less, below)))
+    (λ w below. whole (kept_whole point old before kept w) (omega (arith, less, below)))
     (λ damage at.
-    let same = kept_rested seat old before damage kept at in
+    let same = kept_rested point old before damage kept at in
     let here = subst (λ r. damaged_in r damage) (sym same) at in
     (tells before old new fault damage here not.cause, stays damage here ∙ same)))

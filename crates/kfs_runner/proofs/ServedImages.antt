@@ -24,7 +24,7 @@ use Rattle.kfs_runner.specs.Flashes.{HasBlocks}
 use Rattle.kfs_runner.specs.Lines.{OverflowsFrom}
 use Rattle.kfs_runner.specs.Numbers.{limits_of}
 use Rattle.kfs_runner.specs.Refusals.{Rested, rested_on, whole_in, damaged_in}
-use Rattle.kfs_runner.specs.Seats.{Seated, Bare, Known, AreArmed, ShowsBare, IsSeatWhole, shows_seat, device_age}
+use Rattle.kfs_runner.specs.MountPoints.{MountState, Bare, Known, AreArmed, ShowsBare, IsPointWhole, shows_point, device_age}
 use Rattle.kfs_runner.specs.Serving.{formats_first, IsUnplanned, IsHonest, rests_at, AreDone, IsServedOn, OverflowsOn, StopsOn, StopsBehind, StandsFor, output_limit}
 use Rattle.kfs_runner.specs.Strikes.{Strikes, strikes_of, is_cut_planned}
 use Rattle.kfs_runner.specs.Young.{Low, IsYoung}
@@ -50,7 +50,7 @@ pub known_on : (flash : Flash) (age : ℕ) (rested : Option Rested) → IsUnplan
 known_on flash age rested none = (newborn, unplanned_armed flash newborn none refl refl)
 
 abbrev pub Begins : Flash → State → Type 0
-Begins flash s = shows_seat (Bare (resting flash) (age_in flash.image) (Some (rested_on flash))) s × whole_in (Some (rested_on flash)) × (age_in flash.image ≤ 2 ^ 61)
+Begins flash s = shows_point (Bare (resting flash) (age_in flash.image) (Some (rested_on flash))) s × whole_in (Some (rested_on flash)) × (age_in flash.image ≤ 2 ^ 61)
 
 -- an honest image is one from which a life begins that is down
 begins_at : (flash : Flash) (t : Tree) (k : ℕ) → IsUnplanned flash → IsHonest flash.blocks flash.image t k → Begins flash (rests_at t k)

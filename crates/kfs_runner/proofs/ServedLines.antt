@@ -24,13 +24,13 @@ use Rattle.kfs_runner.specs.Flashes.{HasBlocks, new_on}
 use Rattle.kfs_runner.specs.Numbers.{limits_of}
 use Rattle.kfs_runner.specs.Lines.{AnsweredFrom, OverflowsFrom}
 use Rattle.kfs_runner.specs.Strikes.{Strikes, strikes_of, struck_by, is_cut, is_failure}
-use Rattle.kfs_runner.specs.Seats.{Seated, Known, Stores, shows_seat, seat_limits, seat_machine, seat_strikes}
+use Rattle.kfs_runner.specs.MountPoints.{MountState, Known, Stores, shows_point, point_limits, point_machine, point_strikes}
 use Rattle.kfs_runner.specs.Serving.{formats, AreDone, IsServed, Overflows, StandsFor, StopsServing, StopsBehind, output_limit}
 use Rattle.kfs_runner.specs.declared.serving.ServeFault.{ServeFault}
 use Rattle.kfs_runner.specs.declared.serving.ServeFault.TheVariants.{TooLong, Memory}
 use Rattle.kfs_runner.specs.Refusals.{Rested, rested_on, whole_in}
 use Rattle.kfs_runner.specs.Young.{IsYoung}
-use Rattle.kfs_runner.proofs.SeatLaws.{seat_stores, known_room}
+use Rattle.kfs_runner.proofs.PointLaws.{point_stores, known_room}
 use Rattle.kfs_runner.proofs.LinesMore.{one_counted}
 use Rattle.kfs_runner.proofs.Lives.{armed_by, armed_at_end, stays_low, newborn_young}
 
@@ -90,12 +90,12 @@ struck_first before given =
     let faults = counted_first is_failure given refl in
     λ i. record { cuts = before.cuts + cuts i; faults = before.faults + faults i }
 
-pub done : (old new : Seated) (rests : Machine) (ls : List Line) (first text : List ℕ) (begins : State → Type 0) (rested : Option Rested) → Known new → AnsweredFrom (seat_limits old) ls output_limit first text begins (shows_seat new) rested (seat_strikes old) (seat_strikes new) → seat_limits new ≡ seat_limits old → down rests ≡ down (seat_machine new) → AreDone (seat_limits old) ls first text begins rested (seat_strikes old) rests
+pub done : (old new : MountState) (rests : Machine) (ls : List Line) (first text : List ℕ) (begins : State → Type 0) (rested : Option Rested) → Known new → AnsweredFrom (point_limits old) ls output_limit first text begins (shows_point new) rested (point_strikes old) (point_strikes new) → point_limits new ≡ point_limits old → down rests ≡ down (point_machine new) → AreDone (point_limits old) ls first text begins rested (point_strikes old) rests
 done old new rests ls first text begins rested known all room same = record {
   given = all.given;
   same = all.text;
   short = all.short;
-  lives = λ s begin young. let it = all.lives s begin young in (it.0, it.1, stores_rest (seat_machine new) rests it.0 same (seat_stores new it.0 it.2));
+  lives = λ s begin young. let it = all.lives s begin young in (it.0, it.1, stores_rest (point_machine new) rests it.0 same (point_stores new it.0 it.2));
   damaged = all.damaged;
   room = ap limits_in same ∙ sym (known_room new known) ∙ room;
   strikes = ap strikes_of same ∙ all.strikes;

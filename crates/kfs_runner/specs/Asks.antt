@@ -6,13 +6,13 @@ use Rattle.kfs_model.specs.declared.Line.TheVariants as lines
 use Rattle.kfs_model.specs.declared.Answer.{Answer}
 use Rattle.kfs_model.specs.declared.Answer.TheVariants as answers
 use Rattle.kfs_posix.specs.Answering.{Asks}
-use Rattle.kfs_runner.specs.declared.seat.Seat.{Seat}
-use Rattle.kfs_runner.specs.declared.seat.Seat.TheVariants as seats
+use Rattle.kfs_runner.specs.declared.mount_point.MountPoint.{MountPoint}
+use Rattle.kfs_runner.specs.declared.mount_point.MountPoint.TheVariants as points
 
--- what a seat's device was asked for, by what one without a session was
-abbrev pub seat_asked : {A B : Type 0} → (A → Asked) → Seat A B → Asked
-seat_asked asked (seats.Mounted session) = session.asked
-seat_asked asked (seats.Bare store) = asked store
+-- what a point's device was asked for, by what one without a session was
+abbrev pub point_asked : {A B : Type 0} → (A → Asked) → MountPoint A B → Asked
+point_asked asked (points.Mounted session) = session.asked
+point_asked asked (points.Bare store) = asked store
 
 -- `@cut` plans exactly its cut, `@fail` its fault, and `@work` asks a session that is up for as many operations. What
 -- calls and mounts leave of a plan is theirs

@@ -18,7 +18,7 @@ use Rattle.kfs_runner.specs.Reading.{script_limit}
 use Rattle.kfs_runner.specs.Numbers.{limits_of}
 use Rattle.kfs_runner.specs.Words.{task_of}
 use Rattle.kfs_runner.specs.Ending.{Side, Sides, IsRun, IsTooMuch, Ends}
-use Rattle.kfs_runner.specs.Seats.{Seated, Bare, SeatGoes, IsLow, IsSeatWhole, device_age, shows_seat, seat_limits, seat_machine}
+use Rattle.kfs_runner.specs.MountPoints.{MountState, Bare, PointGoes, IsLow, IsPointWhole, device_age, shows_point, point_limits, point_machine}
 use Rattle.kfs_runner.specs.Refusals.{Rested, whole_in}
 
 -- ---- a script
@@ -66,14 +66,14 @@ EachEndIsComplete =
 -- nothing as a plain tree does, or memory is wanting, in each state that it shows, where a mount takes what it rests on
 abbrev pub LinesFailUnplannedByMemoryAlone : Type 0
 LinesFailUnplannedByMemoryAlone =
-    (old new : Seated) (line : Line) (answer : Answer)
-    → SeatGoes old line answer new → is_plain line ≡ true → IsUnplanned (seat_machine old)
-    → (s : State) → shows_seat old s → IsLow s → IsSeatWhole old → device_age old < 2 ^ 62 → PlainAnswer (seat_limits old) s.now line answer
+    (old new : MountState) (line : Line) (answer : Answer)
+    → PointGoes old line answer new → is_plain line ≡ true → IsUnplanned (point_machine old)
+    → (s : State) → shows_point old s → IsLow s → IsPointWhole old → device_age old < 2 ^ 62 → PlainAnswer (point_limits old) s.now line answer
 
 -- a mount of a device that stores the tree after k changes answers k then, or memory is wanting
 abbrev pub MountsFailUnplannedByMemoryAlone : Type 0
 MountsFailUnplannedByMemoryAlone =
-    (m : Machine) (age k : ℕ) (rested : Option Rested) (t : Tree) (answer : Answer) (new : Seated)
-    → SeatGoes (Bare m age rested) lines.Mount answer new → IsUnplanned m → m.cuts < 2 ^ 63 → m.faults < 2 ^ 63 → IsStored m t k
+    (m : Machine) (age k : ℕ) (rested : Option Rested) (t : Tree) (answer : Answer) (new : MountState)
+    → PointGoes (Bare m age rested) lines.Mount answer new → IsUnplanned m → m.cuts < 2 ^ 63 → m.faults < 2 ^ 63 → IsStored m t k
     → k < 2 ^ 62 → t.next < 2 ^ 62 → whole_in rested → age < 2 ^ 62
     → (answer ≡ answers.Mounted k) ⊎ (answer ≡ no_memory)

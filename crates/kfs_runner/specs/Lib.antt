@@ -11,7 +11,7 @@ pub mod Refusals
 pub mod Young
 pub mod Stores
 pub mod Flashes
-pub mod Seats
+pub mod MountPoints
 pub mod Asks
 pub mod Causes
 pub mod Counts

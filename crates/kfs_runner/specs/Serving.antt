@@ -21,7 +21,7 @@ use Rattle.kfs_runner.specs.Numbers.{limits_of}
 use Rattle.kfs_posix.specs.Mounting.{limits_in}
 use Rattle.kfs_model.specs.Tree.{Tree, Limits}
 use Rattle.kv_device.specs.Machine.{Machine}
-use Rattle.kfs_runner.specs.Seats.{StandsAt, Stores}
+use Rattle.kfs_runner.specs.MountPoints.{StandsAt, Stores}
 use Rattle.kfs_runner.specs.Refusals.{Rested, AnswerDamage}
 use Rattle.kfs_runner.specs.Lines.{AreLives, AreRefusals, OverflowsFrom}
 use Rattle.kfs_runner.specs.Strikes.{Strikes, strikes_of, struck_by, is_cut, is_failure, is_cut_planned}

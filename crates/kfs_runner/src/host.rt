@@ -7,7 +7,7 @@ ghost use Rattle.kfs_model.specs.Life.{State, Event};
 ghost use Rattle.kfs_script.specs.Script.{IsLine, is_format};
 ghost use Rattle.kfs_runner.specs.Asks.{LineAsks};
 ghost use Rattle.kfs_runner.specs.Refusals.{Rested, damaged_in, AnswersDamage};
-ghost use Rattle.kfs_runner.specs.Seats.{IsLow};
+ghost use Rattle.kfs_runner.specs.MountPoints.{IsLow};
 ghost use Rattle.kfs_runner.specs.Strikes.{Strikes, struck};
 ghost use Rattle.kfs_runner.specs.Numbers.{line_age};
 

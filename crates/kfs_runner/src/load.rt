@@ -4,13 +4,13 @@ ghost use Rattle.kfs_model.specs.Life.{newborn};
 ghost use Rattle.kfs_script.specs.AnswerText.{and_number};
 ghost use Rattle.kfs_load.specs.Coming.{first_live};
 ghost use Rattle.kfs_load.specs.Generator.{IsLoadRest};
-ghost use Rattle.kfs_runner.specs.Seats.{Known, IsSeatWhole, seated, shows_seat, seat_limits, seat_age, device_age};
+ghost use Rattle.kfs_runner.specs.MountPoints.{Known, IsPointWhole, mount_state, shows_point, point_limits, point_age, device_age};
 ghost use Rattle.kfs_runner.specs.Load.{numbers_text, load_text};
 ghost use Rattle.kfs_runner.specs.Counts.{Counts, CountsReply, plain_behind, IsCounted};
 
 use crate::host::Host;
-use crate::map_seat::format_map;
-use crate::seat::Seat;
+use crate::map_point::format_map;
+use crate::mount_point::MountPoint;
 use crate::store::Store;
 use kfs_load::make_script;
 use kfs_path::Reply;
@@ -84,22 +84,22 @@ fn follow(alloc: Global, plain: &mut PlainTree, line: &Line) -> Result<(), Memor
 // Does the lines behind a load's format in their order.
 fn run_lines<S: Store>(
     alloc: Global,
-    seat: Seat<S>,
+    point: MountPoint<S>,
     plain: PlainTree,
     lines: &[Line],
 ) -> Result<(Tally, Totals), Memory>
-    requires known { Known (seated S.machine S.age S.rested seat) }
-    requires whole { IsSeatWhole (seated S.machine S.age S.rested seat) }
-    requires shows { shows_seat (seated S.machine S.age S.rested seat) newborn }
-    requires age { seat_age (seated S.machine S.age S.rested seat) ≤ 2 ^ 62 }
-    requires device_age { device_age (seated S.machine S.age S.rested seat) ≤ 2 ^ 60 }
-    requires room { (seat_limits (seated S.machine S.age S.rested seat)).keys ≤ 68544 }
-    requires plain { plain ≡ record { world = first_live.world; limits = seat_limits (seated S.machine S.age S.rested seat) } }
+    requires known { Known (mount_state S.machine S.age S.rested point) }
+    requires whole { IsPointWhole (mount_state S.machine S.age S.rested point) }
+    requires shows { shows_point (mount_state S.machine S.age S.rested point) newborn }
+    requires age { point_age (mount_state S.machine S.age S.rested point) ≤ 2 ^ 62 }
+    requires device_age { device_age (mount_state S.machine S.age S.rested point) ≤ 2 ^ 60 }
+    requires room { (point_limits (mount_state S.machine S.age S.rested point)).keys ≤ 68544 }
+    requires plain { plain ≡ record { world = first_live.world; limits = point_limits (mount_state S.machine S.age S.rested point) } }
     requires load { IsLoadRest lines.now }
-    ensures counted { IfOk result (λ r. IsCounted (seat_limits (seated S.machine S.age S.rested seat)) lines.now r.0 r.1) }
+    ensures counted { IfOk result (λ r. IsCounted (point_limits (mount_state S.machine S.age S.rested point)) lines.now r.0 r.1) }
     ensures few { IfOk result (λ r. r.0.dones + r.0.errors < 2 ^ 32) }
 {
-    let mut seat = seat;
+    let mut point = point;
     let mut plain = plain;
     let mut tally = Tally {
         dones: 0,
@@ -107,8 +107,8 @@ fn run_lines<S: Store>(
         changes: 0,
     };
     for line in lines {
-        let (next, answer) = seat.answer(alloc, line);
-        seat = next;
+        let (next, answer) = point.answer(alloc, line);
+        point = next;
         tally = tally.with_answer(&answer)?;
         follow(alloc, &mut plain, line)?;
     }
@@ -160,12 +160,12 @@ pub fn load_line(alloc: Global, seed: u64, count: u32, blocks: u16) -> Result<Te
         unreachable!();
     };
     let lines = make_script(alloc, seed, count, blocks)?;
-    let seat = format_map(alloc, blocks)?;
+    let point = format_map(alloc, blocks)?;
     let plain = PlainTree::new(
         alloc,
         u64::from(layout.max_keys),
         u64::from(layout.max_pages),
     )?;
-    let (tally, totals) = run_lines(alloc, seat, plain, behind_format(lines.as_slice()))?;
+    let (tally, totals) = run_lines(alloc, point, plain, behind_format(lines.as_slice()))?;
     line_of(alloc, tally, totals)
 }

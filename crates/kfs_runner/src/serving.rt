@@ -9,10 +9,10 @@ ghost use Rattle.kfs_runner.specs.Refusals.{damaged_in, whole_in};
 ghost use Rattle.kfs_runner.specs.Serving.{formats, formats_first, IsUnplanned, AreDone, IsServed, IsServedOn, StopsServing, StopsOn, StopsBehind};
 
 use crate::flash::Resting;
-use crate::flash_seat::format_flash;
+use crate::flash_point::format_flash;
 use crate::host::Host;
 use crate::lines::{Unanswered, answer_all};
-use crate::seat::Seat;
+use crate::mount_point::MountPoint;
 use crate::store::Store;
 use kfs_path::Reply;
 use kfs_script::{Answer, Line, Script, write_answer};
@@ -97,10 +97,10 @@ fn serve_new<N: PlannedNand + Drop>(
     ensures planned { IfOk result (λ served. IsLastPlanned lines.now (asked_by (N.planned served.nand) 0)) }
     ensures stops { IfErr result (StopsServing (limits_of (N.flash nand).blocks) lines.now) }
 {
-    let seat = format_flash(alloc, nand)?;
+    let point = format_flash(alloc, nand)?;
     let mut text = Text::new(alloc, b"")?;
     write_answer(alloc, &mut text, &Answer::Reply(Reply::Done))?;
-    match answer_lines(alloc, seat, lines, text) {
+    match answer_lines(alloc, point, lines, text) {
         Ok((store, text)) => Ok(Served {
             nand: store.into_nand(),
             text,
@@ -126,7 +126,7 @@ fn serve_image<N: PlannedNand + Drop>(
 {
     let text = Text::new(alloc, b"")?;
     let resting = Resting::new(nand);
-    match answer_lines(alloc, Seat::Bare(resting), lines, text) {
+    match answer_lines(alloc, MountPoint::Bare(resting), lines, text) {
         Ok((store, text)) => Ok(Served {
             nand: store.into_nand(),
             text,
@@ -146,27 +146,27 @@ fn behind_format(lines: &[Line]) -> &[Line]
 // Answers lines behind the text of those before them, and ends the session.
 fn answer_lines<S: Store>(
     alloc: Global,
-    seat: Seat<S>,
+    point: MountPoint<S>,
     lines: &[Line],
     before: Text,
 ) -> Result<(S, Text), ServeFault>
-    requires known { ⟦<Seat<S> as Host>⟧.known seat }
-    requires age { ⟦<Seat<S> as Host>⟧.age seat ≤ 2 ^ 62 }
-    requires room { (⟦<Seat<S> as Host>⟧.limits seat).keys ≤ 68544 }
+    requires known { ⟦<MountPoint<S> as Host>⟧.known point }
+    requires age { ⟦<MountPoint<S> as Host>⟧.age point ≤ 2 ^ 62 }
+    requires room { (⟦<MountPoint<S> as Host>⟧.limits point).keys ≤ 68544 }
     requires few { length lines.now ≤ 2 ^ 22 }
     requires lines { All IsLine lines.now }
     requires formats { All (λ line. is_format line ≡ false) lines.now }
     requires short { length before ≤ OUTPUT_LIMIT }
-    ensures ok { IfOk result (λ r. AreDone (⟦<Seat<S> as Host>⟧.limits seat) lines.now before r.1 (λ s. ⟦<Seat<S> as Host>⟧.shows seat s × ⟦<Seat<S> as Host>⟧.whole seat × (⟦<Seat<S> as Host>⟧.device_age seat ≤ 2 ^ 61)) (⟦<Seat<S> as Host>⟧.rested seat) (⟦<Seat<S> as Host>⟧.strikes seat) (S.machine r.0)) }
-    ensures whole { IfOk result (λ r. ⟦<Seat<S> as Host>⟧.whole seat → ⟦<Seat<S> as Host>⟧.device_age seat ≤ 2 ^ 61 → whole_in (S.rested r.0)) }
-    ensures stays { IfOk result (λ r. (damage : Damage) → damaged_in (⟦<Seat<S> as Host>⟧.rested seat) damage → S.rested r.0 ≡ ⟦<Seat<S> as Host>⟧.rested seat) }
-    ensures age { IfOk result (λ r. ⟦<Seat<S> as Host>⟧.device_age seat ≤ 2 ^ 61 → S.age r.0 < 2 ^ 62) }
+    ensures ok { IfOk result (λ r. AreDone (⟦<MountPoint<S> as Host>⟧.limits point) lines.now before r.1 (λ s. ⟦<MountPoint<S> as Host>⟧.shows point s × ⟦<MountPoint<S> as Host>⟧.whole point × (⟦<MountPoint<S> as Host>⟧.device_age point ≤ 2 ^ 61)) (⟦<MountPoint<S> as Host>⟧.rested point) (⟦<MountPoint<S> as Host>⟧.strikes point) (S.machine r.0)) }
+    ensures whole { IfOk result (λ r. ⟦<MountPoint<S> as Host>⟧.whole point → ⟦<MountPoint<S> as Host>⟧.device_age point ≤ 2 ^ 61 → whole_in (S.rested r.0)) }
+    ensures stays { IfOk result (λ r. (damage : Damage) → damaged_in (⟦<MountPoint<S> as Host>⟧.rested point) damage → S.rested r.0 ≡ ⟦<MountPoint<S> as Host>⟧.rested point) }
+    ensures age { IfOk result (λ r. ⟦<MountPoint<S> as Host>⟧.device_age point ≤ 2 ^ 61 → S.age r.0 < 2 ^ 62) }
     ensures planned { IfOk result (λ r. IsLastPlanned lines.now (S.asked r.0)) }
-    ensures stops { IfErr result (StopsBehind (⟦<Seat<S> as Host>⟧.limits seat) lines.now before (λ s. ⟦<Seat<S> as Host>⟧.shows seat s × ⟦<Seat<S> as Host>⟧.whole seat × (⟦<Seat<S> as Host>⟧.device_age seat ≤ 2 ^ 61)) (⟦<Seat<S> as Host>⟧.rested seat)) }
+    ensures stops { IfErr result (StopsBehind (⟦<MountPoint<S> as Host>⟧.limits point) lines.now before (λ s. ⟦<MountPoint<S> as Host>⟧.shows point s × ⟦<MountPoint<S> as Host>⟧.whole point × (⟦<MountPoint<S> as Host>⟧.device_age point ≤ 2 ^ 61)) (⟦<MountPoint<S> as Host>⟧.rested point)) }
 {
     let mut text = before;
-    match answer_all(alloc, seat, lines, OUTPUT_LIMIT, &mut text) {
-        Ok(seat) => Ok((seat.into_store(), text)),
+    match answer_all(alloc, point, lines, OUTPUT_LIMIT, &mut text) {
+        Ok(point) => Ok((point.into_store(), text)),
         Err(Unanswered::TooLong) => Err(ServeFault::TooLong(text)),
         Err(Unanswered::Memory) => Err(ServeFault::Memory),
     }

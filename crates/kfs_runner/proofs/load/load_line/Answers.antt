@@ -24,4 +24,4 @@ returns c =
     let whole : c.as_slice.result.now ≡ lines.Format c.args.blocks ∷ load_rest c.args.seed c.args.count = c.as_slice.ensures.value ∙ c.in_ok-lines.ensures ∙ rest_is c.args.seed c.args.count c.args.blocks in
     let rest : c.behind_format.result.now ≡ load_rest c.args.seed c.args.count = c.behind_format.ensures ∙ ap (drop 1) whole in
     let T : List ℕ → Type 0 = λ t. IfOk c.line_of.result (λ text. text ≡ t) in
-    subst T (text_is c.args.seed c.args.count c.args.blocks _ c.behind_format.result.now c.in_ok-tally.tally c.in_ok-tally.totals c.in_ok-seat.ensures.limits rest c.in_ok-tally.ensures.counted) c.line_of.ensures
+    subst T (text_is c.args.seed c.args.count c.args.blocks _ c.behind_format.result.now c.in_ok-tally.tally c.in_ok-tally.totals c.in_ok-point.ensures.limits rest c.in_ok-tally.ensures.counted) c.line_of.ensures

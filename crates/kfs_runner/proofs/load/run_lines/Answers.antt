@@ -8,10 +8,10 @@ use Rattle.kfs_plain.specs.declared.tree.Totals.{Totals}
 use Rattle.kfs_script.specs.Script.{IsLine, is_format}
 use Rattle.kfs_load.specs.Coming.{is_error}
 use Rattle.kfs_runner.specs.declared.load.Tally.{Tally}
-use Rattle.kfs_runner.specs.Seats.{seated, seat_limits, device_age}
+use Rattle.kfs_runner.specs.MountPoints.{mount_state, point_limits, device_age}
 use Rattle.kfs_runner.proofs.Lives.{young_low}
 use Rattle.kfs_runner.specs.Counts.{counted, Counts, IsCounted}
-use Rattle.kfs_runner.proofs.LoadRuns.{IsAt, SeatDoes, begins, goes_on, ends, load_has, lines_hold, no_formats, load_follows, load_few}
+use Rattle.kfs_runner.proofs.LoadRuns.{IsAt, PointDoes, begins, goes_on, ends, load_has, lines_hold, no_formats, load_follows, load_few}
 use Rattle.kfs_runner.proofs.load.run_lines.Goals as goal
 
 rest_is : (ls : List Line) (i : ℕ) (line : Line) → i < length ls → line ≡ get_or ls i line → drop i ls ≡ line ∷ drop (i + 1) ls
@@ -28,7 +28,7 @@ counts_few old new (answers.Refused damage) counts = absurd counts
 
 pub loop-line-init : goal.loop-line-init
 loop-line-init g c = record {
-  at = begins (seated g.S.Store.machine g.S.Store.age g.S.Store.rested c.args.seat) c.args.plain c.args.lines.now c.requires.shows c.requires.plain (load_follows c.args.lines.now c.requires.load);
+  at = begins (mount_state g.S.Store.machine g.S.Store.age g.S.Store.rested c.args.point) c.args.plain c.args.lines.now c.requires.shows c.requires.plain (load_follows c.args.lines.now c.requires.load);
   known = c.requires.known;
   whole = c.requires.whole;
   age = c.requires.age;
@@ -67,24 +67,24 @@ follow-requires g c =
 
 pub loop-line-preserved : goal.loop-line-preserved
 loop-line-preserved g c =
-    let at_seat = seated g.S.Store.machine g.S.Store.age g.S.Store.rested in
-    let k = seat_limits (at_seat c.args.seat) in
+    let at_point = mount_state g.S.Store.machine g.S.Store.age g.S.Store.rested in
+    let k = point_limits (at_point c.args.point) in
     let line = c.line-item.result in
     let answer = c.answer-next.result.1 in
     let rest = drop (c.loop-line.line-index + 1) c.args.lines.now in
     let below : c.loop-line.line-index < length c.args.lines.now = omega arith in
-    let R : List Line → Type 0 = λ ls. IsAt k (at_seat c.loop-line.seat) c.loop-line.plain c.loop-line.tally ls c.args.lines.now in
+    let R : List Line → Type 0 = λ ls. IsAt k (at_point c.loop-line.point) c.loop-line.plain c.loop-line.tally ls c.args.lines.now in
     let at = subst R (rest_is c.args.lines.now c.loop-line.line-index line below c.line-item.is) c.loop-line.invariant.at in
     let few = load_few c.args.lines.now c.requires.load in
     let before = c.loop-line.invariant in
     let many : at.changes + 2 < 2 ^ 62 = omega (arith, at.spent, few) in
-    let young : device_age (at_seat c.loop-line.seat) < 2 ^ 62 = omega (arith, before.device, few, below) in
+    let young : device_age (at_point c.loop-line.point) < 2 ^ 62 = omega (arith, before.device, few, below) in
     let went = c.answer-next.ensures.goes_on at.state at.shows (young_low at.changes at.state many at.young) before.whole young in
-    let does : SeatDoes (at_seat c.loop-line.seat) at.state line answer (at_seat c.answer-next.result.0) = (went.0, went.1, went.2, c.answer-next.ensures.limits) in
-    let P : Plain → Type 0 = λ p. IsAt k (at_seat c.answer-next.result.0) p c.in_ok-tally.tally rest c.args.lines.now in
+    let does : PointDoes (at_point c.loop-line.point) at.state line answer (at_point c.answer-next.result.0) = (went.0, went.1, went.2, c.answer-next.ensures.limits) in
+    let P : Plain → Type 0 = λ p. IsAt k (at_point c.answer-next.result.0) p c.in_ok-tally.tally rest c.args.lines.now in
     let counts = counts_few c.loop-line.tally c.in_ok-tally.tally answer c.in_ok-tally.ensures in
     record {
-      at = subst P (sym c.in_ok-follow.ensures.behind) (goes_on k (at_seat c.loop-line.seat) (at_seat c.answer-next.result.0) c.loop-line.plain c.loop-line.tally c.in_ok-tally.tally line rest c.args.lines.now answer at does c.in_ok-tally.ensures);
+      at = subst P (sym c.in_ok-follow.ensures.behind) (goes_on k (at_point c.loop-line.point) (at_point c.answer-next.result.0) c.loop-line.plain c.loop-line.tally c.in_ok-tally.tally line rest c.args.lines.now answer at does c.in_ok-tally.ensures);
       known = c.answer-next.ensures.known;
       whole = c.answer-next.ensures.whole before.whole young;
       age = omega (arith, c.answer-next.ensures.age, c.loop-line.invariant.age);
@@ -95,13 +95,13 @@ loop-line-preserved g c =
 
 pub returns-clause-counted : goal.returns-clause-counted
 returns-clause-counted g c =
-    let at_seat = seated g.S.Store.machine g.S.Store.age g.S.Store.rested in
-    let k = seat_limits (at_seat c.args.seat) in
+    let at_point = mount_state g.S.Store.machine g.S.Store.age g.S.Store.rested in
+    let k = point_limits (at_point c.args.point) in
     let end : c.loop-line.line-index ≡ length c.args.lines.now = omega arith in
-    let R : List Line → Type 0 = λ ls. IsAt k (at_seat c.loop-line.seat) c.loop-line.plain c.loop-line.tally ls c.args.lines.now in
+    let R : List Line → Type 0 = λ ls. IsAt k (at_point c.loop-line.point) c.loop-line.plain c.loop-line.tally ls c.args.lines.now in
     let T : Totals → Type 0 = λ t. IsCounted k c.args.lines.now c.loop-line.tally t in
     let at = subst R (ap (λ i. drop i c.args.lines.now) end ∙ drop-length c.args.lines.now) c.loop-line.invariant.at in
-    subst T (sym c.totals.ensures) (ends k (at_seat c.loop-line.seat) c.loop-line.plain c.loop-line.tally c.args.lines.now at)
+    subst T (sym c.totals.ensures) (ends k (at_point c.loop-line.point) c.loop-line.plain c.loop-line.tally c.args.lines.now at)
 
 pub returns-clause-few : goal.returns-clause-few
 returns-clause-few g c =

@@ -5,7 +5,7 @@ use Rattle.kssd_image.specs.Whole.{age_in}
 use Rattle.kssd_machine.specs.Machines.{resting}
 use Rattle.kfs_runner.specs.Numbers.{limits_of}
 use Rattle.kfs_runner.specs.Refusals.{rested_on, whole_in, damaged_in}
-use Rattle.kfs_runner.specs.Seats.{Seated, Bare, Known, IsSeatWhole, shows_seat, seat_limits, seat_rested, seat_strikes, seat_age, device_age}
+use Rattle.kfs_runner.specs.MountPoints.{MountState, Bare, Known, IsPointWhole, shows_point, point_limits, point_rested, point_strikes, point_age, device_age}
 use Rattle.kfs_runner.specs.Serving.{AreDone, StopsBehind}
 use Rattle.kfs_runner.specs.Strikes.{strikes_of}
 use Rattle.kfs_runner.proofs.Asking.{last_moved}
@@ -29,11 +29,11 @@ returns-in-Ok-clause-ok g c =
     let text = c.in-Ok.text in
     let done = c.new-resting.ensures in
     let at : _ ≡ Bare (resting old) (age_in old.image) (Some (rested_on old)) = λ i. Bare (done.rests i) (done.age i) (done.rested i) in
-    let all = subst (λ (seat : Seated). AreDone (seat_limits seat) ls first text (λ s. shows_seat seat s × IsSeatWhole seat × (device_age seat ≤ 2 ^ 61)) (seat_rested seat) (seat_strikes seat) (resting kept)) at c.in-Ok.ensures.ok in
+    let all = subst (λ (point : MountState). AreDone (point_limits point) ls first text (λ s. shows_point point s × IsPointWhole point × (device_age point ≤ 2 ^ 61)) (point_rested point) (point_strikes point) (resting kept)) at c.in-Ok.ensures.ok in
     let rests = subst (λ (m : Machine). AreDone (limits_of old.blocks) ls first text (Begins old) (Some (rested_on old)) (strikes_of (resting old)) m) (sym c.into_nand.ensures.rests) all in
-    let whole = subst (λ (seat : Seated). IsSeatWhole seat → device_age seat ≤ 2 ^ 61 → whole_in (Some (rested_on kept))) at c.in-Ok.ensures.whole in
-    let low = subst (λ (seat : Seated). device_age seat ≤ 2 ^ 61 → age_in kept.image < 2 ^ 62) at c.in-Ok.ensures.age in
-    let stays = subst (λ (seat : Seated). (damage : Damage) → damaged_in (seat_rested seat) damage → Some (rested_on kept) ≡ seat_rested seat) at c.in-Ok.ensures.stays in
+    let whole = subst (λ (point : MountState). IsPointWhole point → device_age point ≤ 2 ^ 61 → whole_in (Some (rested_on kept))) at c.in-Ok.ensures.whole in
+    let low = subst (λ (point : MountState). device_age point ≤ 2 ^ 61 → age_in kept.image < 2 ^ 62) at c.in-Ok.ensures.age in
+    let stays = subst (λ (point : MountState). (damage : Damage) → damaged_in (point_rested point) damage → Some (rested_on kept) ≡ point_rested point) at c.in-Ok.ensures.stays in
     served_on old new ls first text (record { least = c.requires.blocks.0; most = c.requires.blocks.1 }) c.requires.few c.requires.unplanned c.into_nand.ensures.blocks c.in_ok-text.ensures
     (λ w y. subst whole_in (sym c.into_nand.ensures.rested) (whole w y))
     (λ y. omega (arith, c.into_nand.ensures.age, low y))
@@ -50,4 +50,4 @@ returns-in-Err-clause-stops g c =
     let first = c.in_ok-text.text in
     let done = c.new-resting.ensures in
     let at : _ ≡ Bare (resting old) (age_in old.image) (Some (rested_on old)) = λ i. Bare (done.rests i) (done.age i) (done.rested i) in
-    stops_on old ls first c.in-Err.fault c.requires.unplanned c.in_ok-text.ensures (subst (λ (seat : Seated). StopsBehind (seat_limits seat) ls first (λ s. shows_seat seat s × IsSeatWhole seat × (device_age seat ≤ 2 ^ 61)) (seat_rested seat) c.in-Err.fault) at c.in-Err.ensures.stops)
+    stops_on old ls first c.in-Err.fault c.requires.unplanned c.in_ok-text.ensures (subst (λ (point : MountState). StopsBehind (point_limits point) ls first (λ s. shows_point point s × IsPointWhole point × (device_age point ≤ 2 ^ 61)) (point_rested point) c.in-Err.fault) at c.in-Err.ensures.stops)

@@ -5,7 +5,7 @@ use Rattle.kfs_model.specs.Step.{natural}
 use Rattle.kfs_tx.specs.Tx.{seen}
 use Rattle.kfs_core.specs.Core.{tx_in}
 use Rattle.kfs_core.specs.Room.{space_in}
-use Rattle.kfs_posix.specs.Book.{book_of}
+use Rattle.kfs_posix.specs.Volume.{volume_of}
 use Rattle.kfs_posix.specs.Resizing.{ftruncate_in, Resized, NotResized}
 use Rattle.kfs_posix.proofs.ResizeEvents.{ftruncate_resizing}
 use Rattle.kfs_posix.proofs.ResizeAnswers.{resize_answered, resize_failed}
@@ -28,34 +28,34 @@ pub ftruncate-requires : goal.ftruncate-requires
 ftruncate-requires g c = age_in c.args.self.now c.self.inside.kfs c.self.inside.files.opens c.self.inside.down c.self.view_is c.requires
 
 pub refuse-requires : goal.refuse-requires
-refuse-requires g c = (resize_failed c.args.self.now c.self.inside.kfs c.ftruncate.new.kfs c.self.inside.files.opens c.ftruncate.new.files.opens c.self.inside.down c.self.view_is (none_of c.self.inside.down c.if-is_some.ensures) (awake_in (book_of c.self.inside.kfs c.self.inside.files.opens c.self.inside.down) c.self.invariant (none_of c.self.inside.down c.if-is_some.ensures)) c.requires (calls.Ftruncate c.args.fd c.args.length) (ftruncate_in (seen (tx_in c.self.inside.kfs)) (space_in c.self.inside.kfs) c.self.inside.files.opens c.args.fd c.args.length) (natural c.args.length) (ftruncate_resizing (book_of c.self.inside.kfs c.self.inside.files.opens c.self.inside.down) c.args.fd c.args.length) c.in-Err.fault (refusal c.in-Err.fault) (down_after c.self.inside.down c.in-Err.fault) (subst (λ z. NotResized c.self.inside.kfs c.self.inside.files.opens (ftruncate_in (seen (tx_in c.self.inside.kfs)) (space_in c.self.inside.kfs) c.self.inside.files.opens c.args.fd z) (natural z) c.in-Err.fault c.ftruncate.new.kfs c.ftruncate.new.files.opens) (to_z-of_z w64 c.args.length c.ranges.length) c.in-Err.ensures.does) refl refl).answerable (showing_in c.args.self.now c.self.inside.kfs c.self.inside.files.opens c.self.inside.down c.self.view_is c.self.invariant)
+refuse-requires g c = (resize_failed c.args.self.now c.self.inside.kfs c.ftruncate.new.kfs c.self.inside.files.opens c.ftruncate.new.files.opens c.self.inside.down c.self.view_is (none_of c.self.inside.down c.if-is_some.ensures) (awake_in (volume_of c.self.inside.kfs c.self.inside.files.opens c.self.inside.down) c.self.invariant (none_of c.self.inside.down c.if-is_some.ensures)) c.requires (calls.Ftruncate c.args.fd c.args.length) (ftruncate_in (seen (tx_in c.self.inside.kfs)) (space_in c.self.inside.kfs) c.self.inside.files.opens c.args.fd c.args.length) (natural c.args.length) (ftruncate_resizing (volume_of c.self.inside.kfs c.self.inside.files.opens c.self.inside.down) c.args.fd c.args.length) c.in-Err.fault (refusal c.in-Err.fault) (down_after c.self.inside.down c.in-Err.fault) (subst (λ z. NotResized c.self.inside.kfs c.self.inside.files.opens (ftruncate_in (seen (tx_in c.self.inside.kfs)) (space_in c.self.inside.kfs) c.self.inside.files.opens c.args.fd z) (natural z) c.in-Err.fault c.ftruncate.new.kfs c.ftruncate.new.files.opens) (to_z-of_z w64 c.args.length c.ranges.length) c.in-Err.ensures.does) refl refl).answerable (showing_in c.args.self.now c.self.inside.kfs c.self.inside.files.opens c.self.inside.down c.self.view_is c.self.invariant)
 
 pub invariant_of-self-in-Err : goal.invariant_of-self-in-Err
-invariant_of-self-in-Err g c = showing_after c.args.self.now c.self.inside.kfs c.self.inside.files.opens c.self.inside.down c.self.view_is (none_of c.self.inside.down c.if-is_some.ensures) c.self.invariant _ _ _ (resize_failed c.args.self.now c.self.inside.kfs c.ftruncate.new.kfs c.self.inside.files.opens c.ftruncate.new.files.opens c.self.inside.down c.self.view_is (none_of c.self.inside.down c.if-is_some.ensures) (awake_in (book_of c.self.inside.kfs c.self.inside.files.opens c.self.inside.down) c.self.invariant (none_of c.self.inside.down c.if-is_some.ensures)) c.requires (calls.Ftruncate c.args.fd c.args.length) (ftruncate_in (seen (tx_in c.self.inside.kfs)) (space_in c.self.inside.kfs) c.self.inside.files.opens c.args.fd c.args.length) (natural c.args.length) (ftruncate_resizing (book_of c.self.inside.kfs c.self.inside.files.opens c.self.inside.down) c.args.fd c.args.length) c.in-Err.fault c.refuse.result c.refuse.new.down (subst (λ z. NotResized c.self.inside.kfs c.self.inside.files.opens (ftruncate_in (seen (tx_in c.self.inside.kfs)) (space_in c.self.inside.kfs) c.self.inside.files.opens c.args.fd z) (natural z) c.in-Err.fault c.ftruncate.new.kfs c.ftruncate.new.files.opens) (to_z-of_z w64 c.args.length c.ranges.length) c.in-Err.ensures.does) c.refuse.ensures.reply c.refuse.ensures.down).happens.goes
+invariant_of-self-in-Err g c = showing_after c.args.self.now c.self.inside.kfs c.self.inside.files.opens c.self.inside.down c.self.view_is (none_of c.self.inside.down c.if-is_some.ensures) c.self.invariant _ _ _ (resize_failed c.args.self.now c.self.inside.kfs c.ftruncate.new.kfs c.self.inside.files.opens c.ftruncate.new.files.opens c.self.inside.down c.self.view_is (none_of c.self.inside.down c.if-is_some.ensures) (awake_in (volume_of c.self.inside.kfs c.self.inside.files.opens c.self.inside.down) c.self.invariant (none_of c.self.inside.down c.if-is_some.ensures)) c.requires (calls.Ftruncate c.args.fd c.args.length) (ftruncate_in (seen (tx_in c.self.inside.kfs)) (space_in c.self.inside.kfs) c.self.inside.files.opens c.args.fd c.args.length) (natural c.args.length) (ftruncate_resizing (volume_of c.self.inside.kfs c.self.inside.files.opens c.self.inside.down) c.args.fd c.args.length) c.in-Err.fault c.refuse.result c.refuse.new.down (subst (λ z. NotResized c.self.inside.kfs c.self.inside.files.opens (ftruncate_in (seen (tx_in c.self.inside.kfs)) (space_in c.self.inside.kfs) c.self.inside.files.opens c.args.fd z) (natural z) c.in-Err.fault c.ftruncate.new.kfs c.ftruncate.new.files.opens) (to_z-of_z w64 c.args.length c.ranges.length) c.in-Err.ensures.does) c.refuse.ensures.reply c.refuse.ensures.down).happens.goes
 
 pub returns-in-Err-clause-goes_on : goal.returns-in-Err-clause-goes_on
-returns-in-Err-clause-goes_on g c = (resize_failed c.args.self.now c.self.inside.kfs c.ftruncate.new.kfs c.self.inside.files.opens c.ftruncate.new.files.opens c.self.inside.down c.self.view_is (none_of c.self.inside.down c.if-is_some.ensures) (awake_in (book_of c.self.inside.kfs c.self.inside.files.opens c.self.inside.down) c.self.invariant (none_of c.self.inside.down c.if-is_some.ensures)) c.requires (calls.Ftruncate c.args.fd c.args.length) (ftruncate_in (seen (tx_in c.self.inside.kfs)) (space_in c.self.inside.kfs) c.self.inside.files.opens c.args.fd c.args.length) (natural c.args.length) (ftruncate_resizing (book_of c.self.inside.kfs c.self.inside.files.opens c.self.inside.down) c.args.fd c.args.length) c.in-Err.fault c.refuse.result c.refuse.new.down (subst (λ z. NotResized c.self.inside.kfs c.self.inside.files.opens (ftruncate_in (seen (tx_in c.self.inside.kfs)) (space_in c.self.inside.kfs) c.self.inside.files.opens c.args.fd z) (natural z) c.in-Err.fault c.ftruncate.new.kfs c.ftruncate.new.files.opens) (to_z-of_z w64 c.args.length c.ranges.length) c.in-Err.ensures.does) c.refuse.ensures.reply c.refuse.ensures.down).happens.goes
+returns-in-Err-clause-goes_on g c = (resize_failed c.args.self.now c.self.inside.kfs c.ftruncate.new.kfs c.self.inside.files.opens c.ftruncate.new.files.opens c.self.inside.down c.self.view_is (none_of c.self.inside.down c.if-is_some.ensures) (awake_in (volume_of c.self.inside.kfs c.self.inside.files.opens c.self.inside.down) c.self.invariant (none_of c.self.inside.down c.if-is_some.ensures)) c.requires (calls.Ftruncate c.args.fd c.args.length) (ftruncate_in (seen (tx_in c.self.inside.kfs)) (space_in c.self.inside.kfs) c.self.inside.files.opens c.args.fd c.args.length) (natural c.args.length) (ftruncate_resizing (volume_of c.self.inside.kfs c.self.inside.files.opens c.self.inside.down) c.args.fd c.args.length) c.in-Err.fault c.refuse.result c.refuse.new.down (subst (λ z. NotResized c.self.inside.kfs c.self.inside.files.opens (ftruncate_in (seen (tx_in c.self.inside.kfs)) (space_in c.self.inside.kfs) c.self.inside.files.opens c.args.fd z) (natural z) c.in-Err.fault c.ftruncate.new.kfs c.ftruncate.new.files.opens) (to_z-of_z w64 c.args.length c.ranges.length) c.in-Err.ensures.does) c.refuse.ensures.reply c.refuse.ensures.down).happens.goes
 
 pub returns-in-Err-clause-counts : goal.returns-in-Err-clause-counts
-returns-in-Err-clause-counts g c = (resize_failed c.args.self.now c.self.inside.kfs c.ftruncate.new.kfs c.self.inside.files.opens c.ftruncate.new.files.opens c.self.inside.down c.self.view_is (none_of c.self.inside.down c.if-is_some.ensures) (awake_in (book_of c.self.inside.kfs c.self.inside.files.opens c.self.inside.down) c.self.invariant (none_of c.self.inside.down c.if-is_some.ensures)) c.requires (calls.Ftruncate c.args.fd c.args.length) (ftruncate_in (seen (tx_in c.self.inside.kfs)) (space_in c.self.inside.kfs) c.self.inside.files.opens c.args.fd c.args.length) (natural c.args.length) (ftruncate_resizing (book_of c.self.inside.kfs c.self.inside.files.opens c.self.inside.down) c.args.fd c.args.length) c.in-Err.fault c.refuse.result c.refuse.new.down (subst (λ z. NotResized c.self.inside.kfs c.self.inside.files.opens (ftruncate_in (seen (tx_in c.self.inside.kfs)) (space_in c.self.inside.kfs) c.self.inside.files.opens c.args.fd z) (natural z) c.in-Err.fault c.ftruncate.new.kfs c.ftruncate.new.files.opens) (to_z-of_z w64 c.args.length c.ranges.length) c.in-Err.ensures.does) c.refuse.ensures.reply c.refuse.ensures.down).happens.counts
+returns-in-Err-clause-counts g c = (resize_failed c.args.self.now c.self.inside.kfs c.ftruncate.new.kfs c.self.inside.files.opens c.ftruncate.new.files.opens c.self.inside.down c.self.view_is (none_of c.self.inside.down c.if-is_some.ensures) (awake_in (volume_of c.self.inside.kfs c.self.inside.files.opens c.self.inside.down) c.self.invariant (none_of c.self.inside.down c.if-is_some.ensures)) c.requires (calls.Ftruncate c.args.fd c.args.length) (ftruncate_in (seen (tx_in c.self.inside.kfs)) (space_in c.self.inside.kfs) c.self.inside.files.opens c.args.fd c.args.length) (natural c.args.length) (ftruncate_resizing (volume_of c.self.inside.kfs c.self.inside.files.opens c.self.inside.down) c.args.fd c.args.length) c.in-Err.fault c.refuse.result c.refuse.new.down (subst (λ z. NotResized c.self.inside.kfs c.self.inside.files.opens (ftruncate_in (seen (tx_in c.self.inside.kfs)) (space_in c.self.inside.kfs) c.self.inside.files.opens c.args.fd z) (natural z) c.in-Err.fault c.ftruncate.new.kfs c.ftruncate.new.files.opens) (to_z-of_z w64 c.args.length c.ranges.length) c.in-Err.ensures.does) c.refuse.ensures.reply c.refuse.ensures.down).happens.counts
 
 pub returns-in-Err-clause-down : goal.returns-in-Err-clause-down
-returns-in-Err-clause-down g c = (resize_failed c.args.self.now c.self.inside.kfs c.ftruncate.new.kfs c.self.inside.files.opens c.ftruncate.new.files.opens c.self.inside.down c.self.view_is (none_of c.self.inside.down c.if-is_some.ensures) (awake_in (book_of c.self.inside.kfs c.self.inside.files.opens c.self.inside.down) c.self.invariant (none_of c.self.inside.down c.if-is_some.ensures)) c.requires (calls.Ftruncate c.args.fd c.args.length) (ftruncate_in (seen (tx_in c.self.inside.kfs)) (space_in c.self.inside.kfs) c.self.inside.files.opens c.args.fd c.args.length) (natural c.args.length) (ftruncate_resizing (book_of c.self.inside.kfs c.self.inside.files.opens c.self.inside.down) c.args.fd c.args.length) c.in-Err.fault c.refuse.result c.refuse.new.down (subst (λ z. NotResized c.self.inside.kfs c.self.inside.files.opens (ftruncate_in (seen (tx_in c.self.inside.kfs)) (space_in c.self.inside.kfs) c.self.inside.files.opens c.args.fd z) (natural z) c.in-Err.fault c.ftruncate.new.kfs c.ftruncate.new.files.opens) (to_z-of_z w64 c.args.length c.ranges.length) c.in-Err.ensures.does) c.refuse.ensures.reply c.refuse.ensures.down).happens.keeps
+returns-in-Err-clause-down g c = (resize_failed c.args.self.now c.self.inside.kfs c.ftruncate.new.kfs c.self.inside.files.opens c.ftruncate.new.files.opens c.self.inside.down c.self.view_is (none_of c.self.inside.down c.if-is_some.ensures) (awake_in (volume_of c.self.inside.kfs c.self.inside.files.opens c.self.inside.down) c.self.invariant (none_of c.self.inside.down c.if-is_some.ensures)) c.requires (calls.Ftruncate c.args.fd c.args.length) (ftruncate_in (seen (tx_in c.self.inside.kfs)) (space_in c.self.inside.kfs) c.self.inside.files.opens c.args.fd c.args.length) (natural c.args.length) (ftruncate_resizing (volume_of c.self.inside.kfs c.self.inside.files.opens c.self.inside.down) c.args.fd c.args.length) c.in-Err.fault c.refuse.result c.refuse.new.down (subst (λ z. NotResized c.self.inside.kfs c.self.inside.files.opens (ftruncate_in (seen (tx_in c.self.inside.kfs)) (space_in c.self.inside.kfs) c.self.inside.files.opens c.args.fd z) (natural z) c.in-Err.fault c.ftruncate.new.kfs c.ftruncate.new.files.opens) (to_z-of_z w64 c.args.length c.ranges.length) c.in-Err.ensures.does) c.refuse.ensures.reply c.refuse.ensures.down).happens.keeps
 
 pub returns-in-Err-clause-age : goal.returns-in-Err-clause-age
 returns-in-Err-clause-age g c = aged_by c.args.self.now c.self.inside.kfs c.ftruncate.new.kfs c.self.inside.files.opens c.self.inside.down (2 ^ 17) (omega arith) c.self.view_is c.in-Err.ensures.age
 
 pub invariant_of-self : goal.invariant_of-self
-invariant_of-self g c = showing_after c.args.self.now c.self.inside.kfs c.self.inside.files.opens c.self.inside.down c.self.view_is (none_of c.self.inside.down c.if-is_some.ensures) c.self.invariant _ _ _ (resize_answered c.args.self.now c.self.inside.kfs c.ftruncate.new.kfs c.self.inside.files.opens c.ftruncate.new.files.opens c.self.inside.down c.self.view_is (none_of c.self.inside.down c.if-is_some.ensures) (awake_in (book_of c.self.inside.kfs c.self.inside.files.opens c.self.inside.down) c.self.invariant (none_of c.self.inside.down c.if-is_some.ensures)) c.requires (calls.Ftruncate c.args.fd c.args.length) (ftruncate_in (seen (tx_in c.self.inside.kfs)) (space_in c.self.inside.kfs) c.self.inside.files.opens c.args.fd c.args.length) (natural c.args.length) (ftruncate_resizing (book_of c.self.inside.kfs c.self.inside.files.opens c.self.inside.down) c.args.fd c.args.length) (subst (λ z. Resized c.self.inside.kfs c.self.inside.files.opens (ftruncate_in (seen (tx_in c.self.inside.kfs)) (space_in c.self.inside.kfs) c.self.inside.files.opens c.args.fd z) (natural z) c.ftruncate.new.kfs c.ftruncate.new.files.opens) (to_z-of_z w64 c.args.length c.ranges.length) c.in-Ok.ensures.does)).goes
+invariant_of-self g c = showing_after c.args.self.now c.self.inside.kfs c.self.inside.files.opens c.self.inside.down c.self.view_is (none_of c.self.inside.down c.if-is_some.ensures) c.self.invariant _ _ _ (resize_answered c.args.self.now c.self.inside.kfs c.ftruncate.new.kfs c.self.inside.files.opens c.ftruncate.new.files.opens c.self.inside.down c.self.view_is (none_of c.self.inside.down c.if-is_some.ensures) (awake_in (volume_of c.self.inside.kfs c.self.inside.files.opens c.self.inside.down) c.self.invariant (none_of c.self.inside.down c.if-is_some.ensures)) c.requires (calls.Ftruncate c.args.fd c.args.length) (ftruncate_in (seen (tx_in c.self.inside.kfs)) (space_in c.self.inside.kfs) c.self.inside.files.opens c.args.fd c.args.length) (natural c.args.length) (ftruncate_resizing (volume_of c.self.inside.kfs c.self.inside.files.opens c.self.inside.down) c.args.fd c.args.length) (subst (λ z. Resized c.self.inside.kfs c.self.inside.files.opens (ftruncate_in (seen (tx_in c.self.inside.kfs)) (space_in c.self.inside.kfs) c.self.inside.files.opens c.args.fd z) (natural z) c.ftruncate.new.kfs c.ftruncate.new.files.opens) (to_z-of_z w64 c.args.length c.ranges.length) c.in-Ok.ensures.does)).goes
 
 pub returns-in-Ok-clause-goes_on : goal.returns-in-Ok-clause-goes_on
-returns-in-Ok-clause-goes_on g c = (resize_answered c.args.self.now c.self.inside.kfs c.ftruncate.new.kfs c.self.inside.files.opens c.ftruncate.new.files.opens c.self.inside.down c.self.view_is (none_of c.self.inside.down c.if-is_some.ensures) (awake_in (book_of c.self.inside.kfs c.self.inside.files.opens c.self.inside.down) c.self.invariant (none_of c.self.inside.down c.if-is_some.ensures)) c.requires (calls.Ftruncate c.args.fd c.args.length) (ftruncate_in (seen (tx_in c.self.inside.kfs)) (space_in c.self.inside.kfs) c.self.inside.files.opens c.args.fd c.args.length) (natural c.args.length) (ftruncate_resizing (book_of c.self.inside.kfs c.self.inside.files.opens c.self.inside.down) c.args.fd c.args.length) (subst (λ z. Resized c.self.inside.kfs c.self.inside.files.opens (ftruncate_in (seen (tx_in c.self.inside.kfs)) (space_in c.self.inside.kfs) c.self.inside.files.opens c.args.fd z) (natural z) c.ftruncate.new.kfs c.ftruncate.new.files.opens) (to_z-of_z w64 c.args.length c.ranges.length) c.in-Ok.ensures.does)).goes
+returns-in-Ok-clause-goes_on g c = (resize_answered c.args.self.now c.self.inside.kfs c.ftruncate.new.kfs c.self.inside.files.opens c.ftruncate.new.files.opens c.self.inside.down c.self.view_is (none_of c.self.inside.down c.if-is_some.ensures) (awake_in (volume_of c.self.inside.kfs c.self.inside.files.opens c.self.inside.down) c.self.invariant (none_of c.self.inside.down c.if-is_some.ensures)) c.requires (calls.Ftruncate c.args.fd c.args.length) (ftruncate_in (seen (tx_in c.self.inside.kfs)) (space_in c.self.inside.kfs) c.self.inside.files.opens c.args.fd c.args.length) (natural c.args.length) (ftruncate_resizing (volume_of c.self.inside.kfs c.self.inside.files.opens c.self.inside.down) c.args.fd c.args.length) (subst (λ z. Resized c.self.inside.kfs c.self.inside.files.opens (ftruncate_in (seen (tx_in c.self.inside.kfs)) (space_in c.self.inside.kfs) c.self.inside.files.opens c.args.fd z) (natural z) c.ftruncate.new.kfs c.ftruncate.new.files.opens) (to_z-of_z w64 c.args.length c.ranges.length) c.in-Ok.ensures.does)).goes
 
 pub returns-in-Ok-clause-counts : goal.returns-in-Ok-clause-counts
-returns-in-Ok-clause-counts g c = (resize_answered c.args.self.now c.self.inside.kfs c.ftruncate.new.kfs c.self.inside.files.opens c.ftruncate.new.files.opens c.self.inside.down c.self.view_is (none_of c.self.inside.down c.if-is_some.ensures) (awake_in (book_of c.self.inside.kfs c.self.inside.files.opens c.self.inside.down) c.self.invariant (none_of c.self.inside.down c.if-is_some.ensures)) c.requires (calls.Ftruncate c.args.fd c.args.length) (ftruncate_in (seen (tx_in c.self.inside.kfs)) (space_in c.self.inside.kfs) c.self.inside.files.opens c.args.fd c.args.length) (natural c.args.length) (ftruncate_resizing (book_of c.self.inside.kfs c.self.inside.files.opens c.self.inside.down) c.args.fd c.args.length) (subst (λ z. Resized c.self.inside.kfs c.self.inside.files.opens (ftruncate_in (seen (tx_in c.self.inside.kfs)) (space_in c.self.inside.kfs) c.self.inside.files.opens c.args.fd z) (natural z) c.ftruncate.new.kfs c.ftruncate.new.files.opens) (to_z-of_z w64 c.args.length c.ranges.length) c.in-Ok.ensures.does)).counts
+returns-in-Ok-clause-counts g c = (resize_answered c.args.self.now c.self.inside.kfs c.ftruncate.new.kfs c.self.inside.files.opens c.ftruncate.new.files.opens c.self.inside.down c.self.view_is (none_of c.self.inside.down c.if-is_some.ensures) (awake_in (volume_of c.self.inside.kfs c.self.inside.files.opens c.self.inside.down) c.self.invariant (none_of c.self.inside.down c.if-is_some.ensures)) c.requires (calls.Ftruncate c.args.fd c.args.length) (ftruncate_in (seen (tx_in c.self.inside.kfs)) (space_in c.self.inside.kfs) c.self.inside.files.opens c.args.fd c.args.length) (natural c.args.length) (ftruncate_resizing (volume_of c.self.inside.kfs c.self.inside.files.opens c.self.inside.down) c.args.fd c.args.length) (subst (λ z. Resized c.self.inside.kfs c.self.inside.files.opens (ftruncate_in (seen (tx_in c.self.inside.kfs)) (space_in c.self.inside.kfs) c.self.inside.files.opens c.args.fd z) (natural z) c.ftruncate.new.kfs c.ftruncate.new.files.opens) (to_z-of_z w64 c.args.length c.ranges.length) c.in-Ok.ensures.does)).counts
 
 pub returns-in-Ok-clause-down : goal.returns-in-Ok-clause-down
-returns-in-Ok-clause-down g c = (resize_answered c.args.self.now c.self.inside.kfs c.ftruncate.new.kfs c.self.inside.files.opens c.ftruncate.new.files.opens c.self.inside.down c.self.view_is (none_of c.self.inside.down c.if-is_some.ensures) (awake_in (book_of c.self.inside.kfs c.self.inside.files.opens c.self.inside.down) c.self.invariant (none_of c.self.inside.down c.if-is_some.ensures)) c.requires (calls.Ftruncate c.args.fd c.args.length) (ftruncate_in (seen (tx_in c.self.inside.kfs)) (space_in c.self.inside.kfs) c.self.inside.files.opens c.args.fd c.args.length) (natural c.args.length) (ftruncate_resizing (book_of c.self.inside.kfs c.self.inside.files.opens c.self.inside.down) c.args.fd c.args.length) (subst (λ z. Resized c.self.inside.kfs c.self.inside.files.opens (ftruncate_in (seen (tx_in c.self.inside.kfs)) (space_in c.self.inside.kfs) c.self.inside.files.opens c.args.fd z) (natural z) c.ftruncate.new.kfs c.ftruncate.new.files.opens) (to_z-of_z w64 c.args.length c.ranges.length) c.in-Ok.ensures.does)).keeps
+returns-in-Ok-clause-down g c = (resize_answered c.args.self.now c.self.inside.kfs c.ftruncate.new.kfs c.self.inside.files.opens c.ftruncate.new.files.opens c.self.inside.down c.self.view_is (none_of c.self.inside.down c.if-is_some.ensures) (awake_in (volume_of c.self.inside.kfs c.self.inside.files.opens c.self.inside.down) c.self.invariant (none_of c.self.inside.down c.if-is_some.ensures)) c.requires (calls.Ftruncate c.args.fd c.args.length) (ftruncate_in (seen (tx_in c.self.inside.kfs)) (space_in c.self.inside.kfs) c.self.inside.files.opens c.args.fd c.args.length) (natural c.args.length) (ftruncate_resizing (volume_of c.self.inside.kfs c.self.inside.files.opens c.self.inside.down) c.args.fd c.args.length) (subst (λ z. Resized c.self.inside.kfs c.self.inside.files.opens (ftruncate_in (seen (tx_in c.self.inside.kfs)) (space_in c.self.inside.kfs) c.self.inside.files.opens c.args.fd z) (natural z) c.ftruncate.new.kfs c.ftruncate.new.files.opens) (to_z-of_z w64 c.args.length c.ranges.length) c.in-Ok.ensures.does)).keeps
 
 pub returns-in-Ok-clause-age : goal.returns-in-Ok-clause-age
 returns-in-Ok-clause-age g c = aged_by c.args.self.now c.self.inside.kfs c.ftruncate.new.kfs c.self.inside.files.opens c.self.inside.down (2 ^ 17) (omega arith) c.self.view_is c.in-Ok.ensures.age

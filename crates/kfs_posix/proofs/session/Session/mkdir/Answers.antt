@@ -8,7 +8,7 @@ use Rattle.kfs_posix.proofs.Fault.{counts_by, keeps_by, none_kept, counts_same, 
 use Rattle.kfs_posix.proofs.Answered.{off_goes, off_keeps, aged_none, aged_by, age_in, mkdir_answered, mkdir_not_made}
 use Rattle.kfs_posix.proofs.session.Session.mkdir.Goals as goal
 use Rattle.kfs_posix.proofs.Shown.{showing_after, showing_in, awake_in}
-use Rattle.kfs_posix.specs.Book.{book_of}
+use Rattle.kfs_posix.specs.Volume.{volume_of}
 use Rattle.kfs_posix.specs.Answering.{refusal, down_after}
 
 pub returns-then-is_some-clause-goes_on : goal.returns-then-is_some-clause-goes_on
@@ -33,7 +33,7 @@ pub returns-in-Err-clause-goes_on : goal.returns-in-Err-clause-goes_on
 returns-in-Err-clause-goes_on g c = (mkdir_not_made c.args.self.now c.self.inside.kfs c.make.new.kfs c.self.inside.files.opens c.self.inside.down c.self.view_is (none_of c.self.inside.down c.if-is_some.ensures) c.requires c.in-Err.ensures.keys c.in-Err.ensures.pages c.in-Err.ensures.chunks c.args.path.now c.refuse.result c.in-Err.fault c.refuse.new.down c.in-Err.ensures.does c.in-Err.ensures.same_charge c.refuse.ensures.reply c.refuse.ensures.down).goes
 
 pub returns-in-Err-clause-counts : goal.returns-in-Err-clause-counts
-returns-in-Err-clause-counts g c = counts_by c.args.self.now c.self.inside.kfs c.self.inside.files.opens c.self.inside.down c.refuse.result c.in-Err.fault c.make.new.kfs.running.tx.machine c.self.view_is c.refuse.ensures.reply (add_counts (tx_in c.self.inside.kfs) (tx_in c.make.new.kfs) 1 _ c.in-Err.fault (awake_in (book_of c.self.inside.kfs c.self.inside.files.opens c.self.inside.down) c.self.invariant (none_of c.self.inside.down c.if-is_some.ensures)) c.in-Err.ensures.does)
+returns-in-Err-clause-counts g c = counts_by c.args.self.now c.self.inside.kfs c.self.inside.files.opens c.self.inside.down c.refuse.result c.in-Err.fault c.make.new.kfs.running.tx.machine c.self.view_is c.refuse.ensures.reply (add_counts (tx_in c.self.inside.kfs) (tx_in c.make.new.kfs) 1 _ c.in-Err.fault (awake_in (volume_of c.self.inside.kfs c.self.inside.files.opens c.self.inside.down) c.self.invariant (none_of c.self.inside.down c.if-is_some.ensures)) c.in-Err.ensures.does)
 
 pub returns-in-Err-clause-down : goal.returns-in-Err-clause-down
 returns-in-Err-clause-down g c = keeps_by c.args.self.now c.self.inside.kfs c.make.new.kfs c.self.inside.files.opens c.self.inside.down c.refuse.new.down c.refuse.result c.in-Err.fault c.self.view_is (none_of c.self.inside.down c.if-is_some.ensures) c.refuse.ensures.reply c.refuse.ensures.down

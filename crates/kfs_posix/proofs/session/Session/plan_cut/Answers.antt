@@ -2,7 +2,7 @@ use Rattle.std.proofs.Common.{max, ◌∙◌, ap}
 use Rattle.kv_device.specs.Asked.{asks_cut}
 use Rattle.kv_device.specs.Machine.{with_most_cuts}
 use Rattle.kfs_tx.specs.Tx.{Tx}
-use Rattle.kfs_posix.specs.Book.{SessionState}
+use Rattle.kfs_posix.specs.Volume.{SessionState}
 use Rattle.kfs_posix.proofs.Planning.{plan_by, cut_showing}
 use Rattle.kfs_posix.proofs.session.Session.plan_cut.Goals as goal
 
@@ -13,10 +13,10 @@ pub returns-clause-goes_on : goal.returns-clause-goes_on
 returns-clause-goes_on g c = plan_by c.args.self.now c.self.inside.kfs c.plan_cut.new.self c.self.inside.files.opens c.self.inside.down c.args.n c.args.how c.self.view_is c.plan_cut.ensures.rest c.plan_cut.ensures.planned
 
 pub returns-clause-planned : goal.returns-clause-planned
-returns-clause-planned g c = ap (λ (r : Tx). r.machine) c.plan_cut.ensures.planned ∙ ap (λ (s : SessionState). with_most_cuts s.book.tx.machine) c.self.view_is
+returns-clause-planned g c = ap (λ (r : Tx). r.machine) c.plan_cut.ensures.planned ∙ ap (λ (s : SessionState). with_most_cuts s.volume.tx.machine) c.self.view_is
 
 pub returns-clause-down : goal.returns-clause-down
-returns-clause-down g c = ap (λ (s : SessionState). s.book.down) c.self.view_is
+returns-clause-down g c = ap (λ (s : SessionState). s.volume.down) c.self.view_is
 
 pub returns-clause-age : goal.returns-clause-age
 returns-clause-age g c = c.plan_cut.ensures.age ∙ ap (λ (s : SessionState). s.device_age) c.self.view_is
@@ -24,8 +24,8 @@ returns-clause-age g c = c.plan_cut.ensures.age ∙ ap (λ (s : SessionState). s
 pub returns-clause-numbers : goal.returns-clause-numbers
 returns-clause-numbers g c =
     let device = c.plan_cut.ensures.age ∙ ap (λ (s : SessionState). s.device_age) c.self.view_is in
-    let changes = ap (λ (r : Tx). r.changes) c.plan_cut.ensures.planned ∙ ap (λ (s : SessionState). s.book.tx.changes) c.self.view_is in
-    let next = ap (λ (r : Tx). r.next) c.plan_cut.ensures.planned ∙ ap (λ (s : SessionState). s.book.tx.next) c.self.view_is in
+    let changes = ap (λ (r : Tx). r.changes) c.plan_cut.ensures.planned ∙ ap (λ (s : SessionState). s.volume.tx.changes) c.self.view_is in
+    let next = ap (λ (r : Tx). r.next) c.plan_cut.ensures.planned ∙ ap (λ (s : SessionState). s.volume.tx.next) c.self.view_is in
     λ i. max (device i) (max (changes i) (next i))
 
 pub returns-clause-asked : goal.returns-clause-asked

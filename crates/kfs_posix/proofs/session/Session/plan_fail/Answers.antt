@@ -3,7 +3,7 @@ use Rattle.kv_base.specs.Counts.{one_more}
 use Rattle.kv_device.specs.Asked.{asks_fault}
 use Rattle.kv_device.specs.Machine.{with_most_faults}
 use Rattle.kfs_tx.specs.Tx.{Tx}
-use Rattle.kfs_posix.specs.Book.{SessionState}
+use Rattle.kfs_posix.specs.Volume.{SessionState}
 use Rattle.kfs_posix.proofs.Planning.{fail_by, fail_showing}
 use Rattle.kfs_posix.proofs.session.Session.plan_fail.Goals as goal
 
@@ -14,16 +14,16 @@ pub returns-clause-goes_on : goal.returns-clause-goes_on
 returns-clause-goes_on g c = fail_by c.args.self.now c.self.inside.kfs c.plan_fail.new.self c.self.inside.files.opens c.self.inside.down c.args.kind c.args.n c.plan_fail.new.self.running.tx.machine.most_faults c.self.view_is c.plan_fail.ensures.rest c.plan_fail.ensures.planned c.plan_fail.ensures.fewest c.plan_fail.ensures.most
 
 pub returns-clause-planned : goal.returns-clause-planned
-returns-clause-planned g c = ap (λ (r : Tx). r.machine) c.plan_fail.ensures.planned ∙ ap (λ (s : SessionState). with_most_faults s.book.tx.machine c.plan_fail.new.self.running.tx.machine.most_faults) c.self.view_is
+returns-clause-planned g c = ap (λ (r : Tx). r.machine) c.plan_fail.ensures.planned ∙ ap (λ (s : SessionState). with_most_faults s.volume.tx.machine c.plan_fail.new.self.running.tx.machine.most_faults) c.self.view_is
 
 pub returns-clause-fewest : goal.returns-clause-fewest
-returns-clause-fewest g c = subst (λ (s : SessionState). s.book.tx.machine.faults ≤ c.plan_fail.new.self.running.tx.machine.most_faults) c.self.view_is c.plan_fail.ensures.fewest
+returns-clause-fewest g c = subst (λ (s : SessionState). s.volume.tx.machine.faults ≤ c.plan_fail.new.self.running.tx.machine.most_faults) c.self.view_is c.plan_fail.ensures.fewest
 
 pub returns-clause-most : goal.returns-clause-most
-returns-clause-most g c = subst (λ (s : SessionState). c.plan_fail.new.self.running.tx.machine.most_faults ≤ one_more s.book.tx.machine.faults) c.self.view_is c.plan_fail.ensures.most
+returns-clause-most g c = subst (λ (s : SessionState). c.plan_fail.new.self.running.tx.machine.most_faults ≤ one_more s.volume.tx.machine.faults) c.self.view_is c.plan_fail.ensures.most
 
 pub returns-clause-down : goal.returns-clause-down
-returns-clause-down g c = ap (λ (s : SessionState). s.book.down) c.self.view_is
+returns-clause-down g c = ap (λ (s : SessionState). s.volume.down) c.self.view_is
 
 pub returns-clause-age : goal.returns-clause-age
 returns-clause-age g c = c.plan_fail.ensures.age ∙ ap (λ (s : SessionState). s.device_age) c.self.view_is
@@ -31,8 +31,8 @@ returns-clause-age g c = c.plan_fail.ensures.age ∙ ap (λ (s : SessionState). 
 pub returns-clause-numbers : goal.returns-clause-numbers
 returns-clause-numbers g c =
     let device = c.plan_fail.ensures.age ∙ ap (λ (s : SessionState). s.device_age) c.self.view_is in
-    let changes = ap (λ (r : Tx). r.changes) c.plan_fail.ensures.planned ∙ ap (λ (s : SessionState). s.book.tx.changes) c.self.view_is in
-    let next = ap (λ (r : Tx). r.next) c.plan_fail.ensures.planned ∙ ap (λ (s : SessionState). s.book.tx.next) c.self.view_is in
+    let changes = ap (λ (r : Tx). r.changes) c.plan_fail.ensures.planned ∙ ap (λ (s : SessionState). s.volume.tx.changes) c.self.view_is in
+    let next = ap (λ (r : Tx). r.next) c.plan_fail.ensures.planned ∙ ap (λ (s : SessionState). s.volume.tx.next) c.self.view_is in
     λ i. max (device i) (max (changes i) (next i))
 
 pub returns-clause-asked : goal.returns-clause-asked

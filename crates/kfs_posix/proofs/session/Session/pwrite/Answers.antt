@@ -10,7 +10,7 @@ use Rattle.kfs_posix.specs.Writing.{PwriteDoes, writable_at}
 use Rattle.kfs_posix.proofs.WriteAnswers.{pwrite_answered, pwrite_failed}
 use Rattle.kfs_posix.proofs.session.Session.pwrite.Goals as goal
 use Rattle.kfs_posix.proofs.Shown.{showing_after, showing_in, awake_in}
-use Rattle.kfs_posix.specs.Book.{book_of}
+use Rattle.kfs_posix.specs.Volume.{volume_of}
 use Rattle.kfs_posix.specs.Answering.{refusal, down_after}
 
 pub returns-then-is_some-clause-goes_on : goal.returns-then-is_some-clause-goes_on
@@ -26,34 +26,34 @@ pub pwrite-requires : goal.pwrite-requires
 pwrite-requires g c = age_in c.args.self.now c.self.inside.kfs c.self.inside.files.opens c.self.inside.down c.self.view_is c.requires
 
 pub refuse-requires : goal.refuse-requires
-refuse-requires g c = (pwrite_failed c.args.self.now c.self.inside.kfs c.pwrite.new.kfs c.self.inside.files.opens c.pwrite.new.files.opens c.self.inside.down c.self.view_is (none_of c.self.inside.down c.if-is_some.ensures) (awake_in (book_of c.self.inside.kfs c.self.inside.files.opens c.self.inside.down) c.self.invariant (none_of c.self.inside.down c.if-is_some.ensures)) c.requires c.args.fd c.args.bytes.now c.args.offset c.in-Err.fault (refusal c.in-Err.fault) (down_after c.self.inside.down c.in-Err.fault) (subst (λ z. PwriteDoes c.self.inside.kfs c.self.inside.files.opens (writable_at c.self.inside.files.opens c.args.fd z) (natural z) c.args.bytes.now (Err c.in-Err.fault) c.pwrite.new.kfs c.pwrite.new.files.opens) (to_z-of_z w64 c.args.offset c.ranges.offset) c.in-Err.ensures.does) refl refl).answerable (showing_in c.args.self.now c.self.inside.kfs c.self.inside.files.opens c.self.inside.down c.self.view_is c.self.invariant)
+refuse-requires g c = (pwrite_failed c.args.self.now c.self.inside.kfs c.pwrite.new.kfs c.self.inside.files.opens c.pwrite.new.files.opens c.self.inside.down c.self.view_is (none_of c.self.inside.down c.if-is_some.ensures) (awake_in (volume_of c.self.inside.kfs c.self.inside.files.opens c.self.inside.down) c.self.invariant (none_of c.self.inside.down c.if-is_some.ensures)) c.requires c.args.fd c.args.bytes.now c.args.offset c.in-Err.fault (refusal c.in-Err.fault) (down_after c.self.inside.down c.in-Err.fault) (subst (λ z. PwriteDoes c.self.inside.kfs c.self.inside.files.opens (writable_at c.self.inside.files.opens c.args.fd z) (natural z) c.args.bytes.now (Err c.in-Err.fault) c.pwrite.new.kfs c.pwrite.new.files.opens) (to_z-of_z w64 c.args.offset c.ranges.offset) c.in-Err.ensures.does) refl refl).answerable (showing_in c.args.self.now c.self.inside.kfs c.self.inside.files.opens c.self.inside.down c.self.view_is c.self.invariant)
 
 pub invariant_of-self-in-Err : goal.invariant_of-self-in-Err
-invariant_of-self-in-Err g c = showing_after c.args.self.now c.self.inside.kfs c.self.inside.files.opens c.self.inside.down c.self.view_is (none_of c.self.inside.down c.if-is_some.ensures) c.self.invariant _ _ _ (pwrite_failed c.args.self.now c.self.inside.kfs c.pwrite.new.kfs c.self.inside.files.opens c.pwrite.new.files.opens c.self.inside.down c.self.view_is (none_of c.self.inside.down c.if-is_some.ensures) (awake_in (book_of c.self.inside.kfs c.self.inside.files.opens c.self.inside.down) c.self.invariant (none_of c.self.inside.down c.if-is_some.ensures)) c.requires c.args.fd c.args.bytes.now c.args.offset c.in-Err.fault c.refuse.result c.refuse.new.down (subst (λ z. PwriteDoes c.self.inside.kfs c.self.inside.files.opens (writable_at c.self.inside.files.opens c.args.fd z) (natural z) c.args.bytes.now (Err c.in-Err.fault) c.pwrite.new.kfs c.pwrite.new.files.opens) (to_z-of_z w64 c.args.offset c.ranges.offset) c.in-Err.ensures.does) c.refuse.ensures.reply c.refuse.ensures.down).happens.goes
+invariant_of-self-in-Err g c = showing_after c.args.self.now c.self.inside.kfs c.self.inside.files.opens c.self.inside.down c.self.view_is (none_of c.self.inside.down c.if-is_some.ensures) c.self.invariant _ _ _ (pwrite_failed c.args.self.now c.self.inside.kfs c.pwrite.new.kfs c.self.inside.files.opens c.pwrite.new.files.opens c.self.inside.down c.self.view_is (none_of c.self.inside.down c.if-is_some.ensures) (awake_in (volume_of c.self.inside.kfs c.self.inside.files.opens c.self.inside.down) c.self.invariant (none_of c.self.inside.down c.if-is_some.ensures)) c.requires c.args.fd c.args.bytes.now c.args.offset c.in-Err.fault c.refuse.result c.refuse.new.down (subst (λ z. PwriteDoes c.self.inside.kfs c.self.inside.files.opens (writable_at c.self.inside.files.opens c.args.fd z) (natural z) c.args.bytes.now (Err c.in-Err.fault) c.pwrite.new.kfs c.pwrite.new.files.opens) (to_z-of_z w64 c.args.offset c.ranges.offset) c.in-Err.ensures.does) c.refuse.ensures.reply c.refuse.ensures.down).happens.goes
 
 pub returns-in-Err-clause-goes_on : goal.returns-in-Err-clause-goes_on
-returns-in-Err-clause-goes_on g c = (pwrite_failed c.args.self.now c.self.inside.kfs c.pwrite.new.kfs c.self.inside.files.opens c.pwrite.new.files.opens c.self.inside.down c.self.view_is (none_of c.self.inside.down c.if-is_some.ensures) (awake_in (book_of c.self.inside.kfs c.self.inside.files.opens c.self.inside.down) c.self.invariant (none_of c.self.inside.down c.if-is_some.ensures)) c.requires c.args.fd c.args.bytes.now c.args.offset c.in-Err.fault c.refuse.result c.refuse.new.down (subst (λ z. PwriteDoes c.self.inside.kfs c.self.inside.files.opens (writable_at c.self.inside.files.opens c.args.fd z) (natural z) c.args.bytes.now (Err c.in-Err.fault) c.pwrite.new.kfs c.pwrite.new.files.opens) (to_z-of_z w64 c.args.offset c.ranges.offset) c.in-Err.ensures.does) c.refuse.ensures.reply c.refuse.ensures.down).happens.goes
+returns-in-Err-clause-goes_on g c = (pwrite_failed c.args.self.now c.self.inside.kfs c.pwrite.new.kfs c.self.inside.files.opens c.pwrite.new.files.opens c.self.inside.down c.self.view_is (none_of c.self.inside.down c.if-is_some.ensures) (awake_in (volume_of c.self.inside.kfs c.self.inside.files.opens c.self.inside.down) c.self.invariant (none_of c.self.inside.down c.if-is_some.ensures)) c.requires c.args.fd c.args.bytes.now c.args.offset c.in-Err.fault c.refuse.result c.refuse.new.down (subst (λ z. PwriteDoes c.self.inside.kfs c.self.inside.files.opens (writable_at c.self.inside.files.opens c.args.fd z) (natural z) c.args.bytes.now (Err c.in-Err.fault) c.pwrite.new.kfs c.pwrite.new.files.opens) (to_z-of_z w64 c.args.offset c.ranges.offset) c.in-Err.ensures.does) c.refuse.ensures.reply c.refuse.ensures.down).happens.goes
 
 pub returns-in-Err-clause-counts : goal.returns-in-Err-clause-counts
-returns-in-Err-clause-counts g c = (pwrite_failed c.args.self.now c.self.inside.kfs c.pwrite.new.kfs c.self.inside.files.opens c.pwrite.new.files.opens c.self.inside.down c.self.view_is (none_of c.self.inside.down c.if-is_some.ensures) (awake_in (book_of c.self.inside.kfs c.self.inside.files.opens c.self.inside.down) c.self.invariant (none_of c.self.inside.down c.if-is_some.ensures)) c.requires c.args.fd c.args.bytes.now c.args.offset c.in-Err.fault c.refuse.result c.refuse.new.down (subst (λ z. PwriteDoes c.self.inside.kfs c.self.inside.files.opens (writable_at c.self.inside.files.opens c.args.fd z) (natural z) c.args.bytes.now (Err c.in-Err.fault) c.pwrite.new.kfs c.pwrite.new.files.opens) (to_z-of_z w64 c.args.offset c.ranges.offset) c.in-Err.ensures.does) c.refuse.ensures.reply c.refuse.ensures.down).happens.counts
+returns-in-Err-clause-counts g c = (pwrite_failed c.args.self.now c.self.inside.kfs c.pwrite.new.kfs c.self.inside.files.opens c.pwrite.new.files.opens c.self.inside.down c.self.view_is (none_of c.self.inside.down c.if-is_some.ensures) (awake_in (volume_of c.self.inside.kfs c.self.inside.files.opens c.self.inside.down) c.self.invariant (none_of c.self.inside.down c.if-is_some.ensures)) c.requires c.args.fd c.args.bytes.now c.args.offset c.in-Err.fault c.refuse.result c.refuse.new.down (subst (λ z. PwriteDoes c.self.inside.kfs c.self.inside.files.opens (writable_at c.self.inside.files.opens c.args.fd z) (natural z) c.args.bytes.now (Err c.in-Err.fault) c.pwrite.new.kfs c.pwrite.new.files.opens) (to_z-of_z w64 c.args.offset c.ranges.offset) c.in-Err.ensures.does) c.refuse.ensures.reply c.refuse.ensures.down).happens.counts
 
 pub returns-in-Err-clause-down : goal.returns-in-Err-clause-down
-returns-in-Err-clause-down g c = (pwrite_failed c.args.self.now c.self.inside.kfs c.pwrite.new.kfs c.self.inside.files.opens c.pwrite.new.files.opens c.self.inside.down c.self.view_is (none_of c.self.inside.down c.if-is_some.ensures) (awake_in (book_of c.self.inside.kfs c.self.inside.files.opens c.self.inside.down) c.self.invariant (none_of c.self.inside.down c.if-is_some.ensures)) c.requires c.args.fd c.args.bytes.now c.args.offset c.in-Err.fault c.refuse.result c.refuse.new.down (subst (λ z. PwriteDoes c.self.inside.kfs c.self.inside.files.opens (writable_at c.self.inside.files.opens c.args.fd z) (natural z) c.args.bytes.now (Err c.in-Err.fault) c.pwrite.new.kfs c.pwrite.new.files.opens) (to_z-of_z w64 c.args.offset c.ranges.offset) c.in-Err.ensures.does) c.refuse.ensures.reply c.refuse.ensures.down).happens.keeps
+returns-in-Err-clause-down g c = (pwrite_failed c.args.self.now c.self.inside.kfs c.pwrite.new.kfs c.self.inside.files.opens c.pwrite.new.files.opens c.self.inside.down c.self.view_is (none_of c.self.inside.down c.if-is_some.ensures) (awake_in (volume_of c.self.inside.kfs c.self.inside.files.opens c.self.inside.down) c.self.invariant (none_of c.self.inside.down c.if-is_some.ensures)) c.requires c.args.fd c.args.bytes.now c.args.offset c.in-Err.fault c.refuse.result c.refuse.new.down (subst (λ z. PwriteDoes c.self.inside.kfs c.self.inside.files.opens (writable_at c.self.inside.files.opens c.args.fd z) (natural z) c.args.bytes.now (Err c.in-Err.fault) c.pwrite.new.kfs c.pwrite.new.files.opens) (to_z-of_z w64 c.args.offset c.ranges.offset) c.in-Err.ensures.does) c.refuse.ensures.reply c.refuse.ensures.down).happens.keeps
 
 pub returns-in-Err-clause-age : goal.returns-in-Err-clause-age
 returns-in-Err-clause-age g c = aged_by c.args.self.now c.self.inside.kfs c.pwrite.new.kfs c.self.inside.files.opens c.self.inside.down (2 ^ 25) (omega arith) c.self.view_is c.in-Err.ensures.age
 
 pub invariant_of-self : goal.invariant_of-self
-invariant_of-self g c = showing_after c.args.self.now c.self.inside.kfs c.self.inside.files.opens c.self.inside.down c.self.view_is (none_of c.self.inside.down c.if-is_some.ensures) c.self.invariant _ _ _ (pwrite_answered c.args.self.now c.self.inside.kfs c.pwrite.new.kfs c.self.inside.files.opens c.pwrite.new.files.opens c.self.inside.down c.self.view_is (none_of c.self.inside.down c.if-is_some.ensures) (awake_in (book_of c.self.inside.kfs c.self.inside.files.opens c.self.inside.down) c.self.invariant (none_of c.self.inside.down c.if-is_some.ensures)) c.requires c.args.fd c.args.bytes.now c.args.offset c.in-Ok.count (subst (λ z. PwriteDoes c.self.inside.kfs c.self.inside.files.opens (writable_at c.self.inside.files.opens c.args.fd z) (natural z) c.args.bytes.now (Ok c.in-Ok.count) c.pwrite.new.kfs c.pwrite.new.files.opens) (to_z-of_z w64 c.args.offset c.ranges.offset) c.in-Ok.ensures.does)).goes
+invariant_of-self g c = showing_after c.args.self.now c.self.inside.kfs c.self.inside.files.opens c.self.inside.down c.self.view_is (none_of c.self.inside.down c.if-is_some.ensures) c.self.invariant _ _ _ (pwrite_answered c.args.self.now c.self.inside.kfs c.pwrite.new.kfs c.self.inside.files.opens c.pwrite.new.files.opens c.self.inside.down c.self.view_is (none_of c.self.inside.down c.if-is_some.ensures) (awake_in (volume_of c.self.inside.kfs c.self.inside.files.opens c.self.inside.down) c.self.invariant (none_of c.self.inside.down c.if-is_some.ensures)) c.requires c.args.fd c.args.bytes.now c.args.offset c.in-Ok.count (subst (λ z. PwriteDoes c.self.inside.kfs c.self.inside.files.opens (writable_at c.self.inside.files.opens c.args.fd z) (natural z) c.args.bytes.now (Ok c.in-Ok.count) c.pwrite.new.kfs c.pwrite.new.files.opens) (to_z-of_z w64 c.args.offset c.ranges.offset) c.in-Ok.ensures.does)).goes
 
 pub returns-in-Ok-clause-goes_on : goal.returns-in-Ok-clause-goes_on
-returns-in-Ok-clause-goes_on g c = (pwrite_answered c.args.self.now c.self.inside.kfs c.pwrite.new.kfs c.self.inside.files.opens c.pwrite.new.files.opens c.self.inside.down c.self.view_is (none_of c.self.inside.down c.if-is_some.ensures) (awake_in (book_of c.self.inside.kfs c.self.inside.files.opens c.self.inside.down) c.self.invariant (none_of c.self.inside.down c.if-is_some.ensures)) c.requires c.args.fd c.args.bytes.now c.args.offset c.in-Ok.count (subst (λ z. PwriteDoes c.self.inside.kfs c.self.inside.files.opens (writable_at c.self.inside.files.opens c.args.fd z) (natural z) c.args.bytes.now (Ok c.in-Ok.count) c.pwrite.new.kfs c.pwrite.new.files.opens) (to_z-of_z w64 c.args.offset c.ranges.offset) c.in-Ok.ensures.does)).goes
+returns-in-Ok-clause-goes_on g c = (pwrite_answered c.args.self.now c.self.inside.kfs c.pwrite.new.kfs c.self.inside.files.opens c.pwrite.new.files.opens c.self.inside.down c.self.view_is (none_of c.self.inside.down c.if-is_some.ensures) (awake_in (volume_of c.self.inside.kfs c.self.inside.files.opens c.self.inside.down) c.self.invariant (none_of c.self.inside.down c.if-is_some.ensures)) c.requires c.args.fd c.args.bytes.now c.args.offset c.in-Ok.count (subst (λ z. PwriteDoes c.self.inside.kfs c.self.inside.files.opens (writable_at c.self.inside.files.opens c.args.fd z) (natural z) c.args.bytes.now (Ok c.in-Ok.count) c.pwrite.new.kfs c.pwrite.new.files.opens) (to_z-of_z w64 c.args.offset c.ranges.offset) c.in-Ok.ensures.does)).goes
 
 pub returns-in-Ok-clause-counts : goal.returns-in-Ok-clause-counts
-returns-in-Ok-clause-counts g c = (pwrite_answered c.args.self.now c.self.inside.kfs c.pwrite.new.kfs c.self.inside.files.opens c.pwrite.new.files.opens c.self.inside.down c.self.view_is (none_of c.self.inside.down c.if-is_some.ensures) (awake_in (book_of c.self.inside.kfs c.self.inside.files.opens c.self.inside.down) c.self.invariant (none_of c.self.inside.down c.if-is_some.ensures)) c.requires c.args.fd c.args.bytes.now c.args.offset c.in-Ok.count (subst (λ z. PwriteDoes c.self.inside.kfs c.self.inside.files.opens (writable_at c.self.inside.files.opens c.args.fd z) (natural z) c.args.bytes.now (Ok c.in-Ok.count) c.pwrite.new.kfs c.pwrite.new.files.opens) (to_z-of_z w64 c.args.offset c.ranges.offset) c.in-Ok.ensures.does)).counts
+returns-in-Ok-clause-counts g c = (pwrite_answered c.args.self.now c.self.inside.kfs c.pwrite.new.kfs c.self.inside.files.opens c.pwrite.new.files.opens c.self.inside.down c.self.view_is (none_of c.self.inside.down c.if-is_some.ensures) (awake_in (volume_of c.self.inside.kfs c.self.inside.files.opens c.self.inside.down) c.self.invariant (none_of c.self.inside.down c.if-is_some.ensures)) c.requires c.args.fd c.args.bytes.now c.args.offset c.in-Ok.count (subst (λ z. PwriteDoes c.self.inside.kfs c.self.inside.files.opens (writable_at c.self.inside.files.opens c.args.fd z) (natural z) c.args.bytes.now (Ok c.in-Ok.count) c.pwrite.new.kfs c.pwrite.new.files.opens) (to_z-of_z w64 c.args.offset c.ranges.offset) c.in-Ok.ensures.does)).counts
 
 pub returns-in-Ok-clause-down : goal.returns-in-Ok-clause-down
-returns-in-Ok-clause-down g c = (pwrite_answered c.args.self.now c.self.inside.kfs c.pwrite.new.kfs c.self.inside.files.opens c.pwrite.new.files.opens c.self.inside.down c.self.view_is (none_of c.self.inside.down c.if-is_some.ensures) (awake_in (book_of c.self.inside.kfs c.self.inside.files.opens c.self.inside.down) c.self.invariant (none_of c.self.inside.down c.if-is_some.ensures)) c.requires c.args.fd c.args.bytes.now c.args.offset c.in-Ok.count (subst (λ z. PwriteDoes c.self.inside.kfs c.self.inside.files.opens (writable_at c.self.inside.files.opens c.args.fd z) (natural z) c.args.bytes.now (Ok c.in-Ok.count) c.pwrite.new.kfs c.pwrite.new.files.opens) (to_z-of_z w64 c.args.offset c.ranges.offset) c.in-Ok.ensures.does)).keeps
+returns-in-Ok-clause-down g c = (pwrite_answered c.args.self.now c.self.inside.kfs c.pwrite.new.kfs c.self.inside.files.opens c.pwrite.new.files.opens c.self.inside.down c.self.view_is (none_of c.self.inside.down c.if-is_some.ensures) (awake_in (volume_of c.self.inside.kfs c.self.inside.files.opens c.self.inside.down) c.self.invariant (none_of c.self.inside.down c.if-is_some.ensures)) c.requires c.args.fd c.args.bytes.now c.args.offset c.in-Ok.count (subst (λ z. PwriteDoes c.self.inside.kfs c.self.inside.files.opens (writable_at c.self.inside.files.opens c.args.fd z) (natural z) c.args.bytes.now (Ok c.in-Ok.count) c.pwrite.new.kfs c.pwrite.new.files.opens) (to_z-of_z w64 c.args.offset c.ranges.offset) c.in-Ok.ensures.does)).keeps
 
 pub returns-in-Ok-clause-age : goal.returns-in-Ok-clause-age
 returns-in-Ok-clause-age g c = aged_by c.args.self.now c.self.inside.kfs c.pwrite.new.kfs c.self.inside.files.opens c.self.inside.down (2 ^ 25) (omega arith) c.self.view_is c.in-Ok.ensures.age

@@ -5,7 +5,7 @@ use Rattle.kfs_posix.proofs.Answered.{off_goes, off_keeps, aged_none, aged_by, a
 use Rattle.kfs_posix.proofs.WholeAnswers.{tree_answered, tree_failed}
 use Rattle.kfs_posix.proofs.session.Session.tree.Goals as goal
 use Rattle.kfs_posix.proofs.Shown.{showing_after, showing_in, awake_in}
-use Rattle.kfs_posix.specs.Book.{book_of}
+use Rattle.kfs_posix.specs.Volume.{volume_of}
 use Rattle.kfs_posix.specs.Answering.{refusal, down_after}
 
 pub returns-then-is_some-clause-goes_on : goal.returns-then-is_some-clause-goes_on
@@ -21,34 +21,34 @@ pub tree-requires : goal.tree-requires
 tree-requires g c = age_in c.args.self.now c.self.inside.kfs c.self.inside.files.opens c.self.inside.down c.self.view_is c.requires.age
 
 pub refuse-requires : goal.refuse-requires
-refuse-requires g c = (tree_failed c.args.self.now c.self.inside.kfs c.tree.new.self c.self.inside.files.opens c.self.inside.down c.self.view_is (none_of c.self.inside.down c.if-is_some.ensures) (awake_in (book_of c.self.inside.kfs c.self.inside.files.opens c.self.inside.down) c.self.invariant (none_of c.self.inside.down c.if-is_some.ensures)) c.in-Err.ensures.rest c.in-Err.fault (refusal c.in-Err.fault) (down_after c.self.inside.down c.in-Err.fault) c.in-Err.ensures.err c.in-Err.ensures.leaves refl refl).answerable (showing_in c.args.self.now c.self.inside.kfs c.self.inside.files.opens c.self.inside.down c.self.view_is c.self.invariant)
+refuse-requires g c = (tree_failed c.args.self.now c.self.inside.kfs c.tree.new.self c.self.inside.files.opens c.self.inside.down c.self.view_is (none_of c.self.inside.down c.if-is_some.ensures) (awake_in (volume_of c.self.inside.kfs c.self.inside.files.opens c.self.inside.down) c.self.invariant (none_of c.self.inside.down c.if-is_some.ensures)) c.in-Err.ensures.rest c.in-Err.fault (refusal c.in-Err.fault) (down_after c.self.inside.down c.in-Err.fault) c.in-Err.ensures.err c.in-Err.ensures.leaves refl refl).answerable (showing_in c.args.self.now c.self.inside.kfs c.self.inside.files.opens c.self.inside.down c.self.view_is c.self.invariant)
 
 pub invariant_of-self-in-Err : goal.invariant_of-self-in-Err
-invariant_of-self-in-Err g c = showing_after c.args.self.now c.self.inside.kfs c.self.inside.files.opens c.self.inside.down c.self.view_is (none_of c.self.inside.down c.if-is_some.ensures) c.self.invariant _ _ _ (tree_failed c.args.self.now c.self.inside.kfs c.tree.new.self c.self.inside.files.opens c.self.inside.down c.self.view_is (none_of c.self.inside.down c.if-is_some.ensures) (awake_in (book_of c.self.inside.kfs c.self.inside.files.opens c.self.inside.down) c.self.invariant (none_of c.self.inside.down c.if-is_some.ensures)) c.in-Err.ensures.rest c.in-Err.fault c.refuse.result c.refuse.new.down c.in-Err.ensures.err c.in-Err.ensures.leaves c.refuse.ensures.reply c.refuse.ensures.down).happens.goes
+invariant_of-self-in-Err g c = showing_after c.args.self.now c.self.inside.kfs c.self.inside.files.opens c.self.inside.down c.self.view_is (none_of c.self.inside.down c.if-is_some.ensures) c.self.invariant _ _ _ (tree_failed c.args.self.now c.self.inside.kfs c.tree.new.self c.self.inside.files.opens c.self.inside.down c.self.view_is (none_of c.self.inside.down c.if-is_some.ensures) (awake_in (volume_of c.self.inside.kfs c.self.inside.files.opens c.self.inside.down) c.self.invariant (none_of c.self.inside.down c.if-is_some.ensures)) c.in-Err.ensures.rest c.in-Err.fault c.refuse.result c.refuse.new.down c.in-Err.ensures.err c.in-Err.ensures.leaves c.refuse.ensures.reply c.refuse.ensures.down).happens.goes
 
 pub returns-in-Err-clause-goes_on : goal.returns-in-Err-clause-goes_on
-returns-in-Err-clause-goes_on g c = (tree_failed c.args.self.now c.self.inside.kfs c.tree.new.self c.self.inside.files.opens c.self.inside.down c.self.view_is (none_of c.self.inside.down c.if-is_some.ensures) (awake_in (book_of c.self.inside.kfs c.self.inside.files.opens c.self.inside.down) c.self.invariant (none_of c.self.inside.down c.if-is_some.ensures)) c.in-Err.ensures.rest c.in-Err.fault c.refuse.result c.refuse.new.down c.in-Err.ensures.err c.in-Err.ensures.leaves c.refuse.ensures.reply c.refuse.ensures.down).happens.goes
+returns-in-Err-clause-goes_on g c = (tree_failed c.args.self.now c.self.inside.kfs c.tree.new.self c.self.inside.files.opens c.self.inside.down c.self.view_is (none_of c.self.inside.down c.if-is_some.ensures) (awake_in (volume_of c.self.inside.kfs c.self.inside.files.opens c.self.inside.down) c.self.invariant (none_of c.self.inside.down c.if-is_some.ensures)) c.in-Err.ensures.rest c.in-Err.fault c.refuse.result c.refuse.new.down c.in-Err.ensures.err c.in-Err.ensures.leaves c.refuse.ensures.reply c.refuse.ensures.down).happens.goes
 
 pub returns-in-Err-clause-counts : goal.returns-in-Err-clause-counts
-returns-in-Err-clause-counts g c = (tree_failed c.args.self.now c.self.inside.kfs c.tree.new.self c.self.inside.files.opens c.self.inside.down c.self.view_is (none_of c.self.inside.down c.if-is_some.ensures) (awake_in (book_of c.self.inside.kfs c.self.inside.files.opens c.self.inside.down) c.self.invariant (none_of c.self.inside.down c.if-is_some.ensures)) c.in-Err.ensures.rest c.in-Err.fault c.refuse.result c.refuse.new.down c.in-Err.ensures.err c.in-Err.ensures.leaves c.refuse.ensures.reply c.refuse.ensures.down).happens.counts
+returns-in-Err-clause-counts g c = (tree_failed c.args.self.now c.self.inside.kfs c.tree.new.self c.self.inside.files.opens c.self.inside.down c.self.view_is (none_of c.self.inside.down c.if-is_some.ensures) (awake_in (volume_of c.self.inside.kfs c.self.inside.files.opens c.self.inside.down) c.self.invariant (none_of c.self.inside.down c.if-is_some.ensures)) c.in-Err.ensures.rest c.in-Err.fault c.refuse.result c.refuse.new.down c.in-Err.ensures.err c.in-Err.ensures.leaves c.refuse.ensures.reply c.refuse.ensures.down).happens.counts
 
 pub returns-in-Err-clause-down : goal.returns-in-Err-clause-down
-returns-in-Err-clause-down g c = (tree_failed c.args.self.now c.self.inside.kfs c.tree.new.self c.self.inside.files.opens c.self.inside.down c.self.view_is (none_of c.self.inside.down c.if-is_some.ensures) (awake_in (book_of c.self.inside.kfs c.self.inside.files.opens c.self.inside.down) c.self.invariant (none_of c.self.inside.down c.if-is_some.ensures)) c.in-Err.ensures.rest c.in-Err.fault c.refuse.result c.refuse.new.down c.in-Err.ensures.err c.in-Err.ensures.leaves c.refuse.ensures.reply c.refuse.ensures.down).happens.keeps
+returns-in-Err-clause-down g c = (tree_failed c.args.self.now c.self.inside.kfs c.tree.new.self c.self.inside.files.opens c.self.inside.down c.self.view_is (none_of c.self.inside.down c.if-is_some.ensures) (awake_in (volume_of c.self.inside.kfs c.self.inside.files.opens c.self.inside.down) c.self.invariant (none_of c.self.inside.down c.if-is_some.ensures)) c.in-Err.ensures.rest c.in-Err.fault c.refuse.result c.refuse.new.down c.in-Err.ensures.err c.in-Err.ensures.leaves c.refuse.ensures.reply c.refuse.ensures.down).happens.keeps
 
 pub returns-in-Err-clause-age : goal.returns-in-Err-clause-age
 returns-in-Err-clause-age g c = aged_by c.args.self.now c.self.inside.kfs c.tree.new.self c.self.inside.files.opens c.self.inside.down (0) (omega arith) c.self.view_is c.in-Err.ensures.age
 
 pub invariant_of-self : goal.invariant_of-self
-invariant_of-self g c = showing_after c.args.self.now c.self.inside.kfs c.self.inside.files.opens c.self.inside.down c.self.view_is (none_of c.self.inside.down c.if-is_some.ensures) c.self.invariant _ _ _ (tree_answered c.args.self.now c.self.inside.kfs c.tree.new.self c.self.inside.files.opens c.self.inside.down c.self.view_is (none_of c.self.inside.down c.if-is_some.ensures) (awake_in (book_of c.self.inside.kfs c.self.inside.files.opens c.self.inside.down) c.self.invariant (none_of c.self.inside.down c.if-is_some.ensures)) c.in-Ok.ensures.rest c.in-Ok.items (keys_in c.args.self.now c.self.inside.kfs c.self.inside.files.opens c.self.inside.down c.self.view_is c.requires.room) c.in-Ok.ensures.lists c.in-Ok.ensures.leaves).goes
+invariant_of-self g c = showing_after c.args.self.now c.self.inside.kfs c.self.inside.files.opens c.self.inside.down c.self.view_is (none_of c.self.inside.down c.if-is_some.ensures) c.self.invariant _ _ _ (tree_answered c.args.self.now c.self.inside.kfs c.tree.new.self c.self.inside.files.opens c.self.inside.down c.self.view_is (none_of c.self.inside.down c.if-is_some.ensures) (awake_in (volume_of c.self.inside.kfs c.self.inside.files.opens c.self.inside.down) c.self.invariant (none_of c.self.inside.down c.if-is_some.ensures)) c.in-Ok.ensures.rest c.in-Ok.items (keys_in c.args.self.now c.self.inside.kfs c.self.inside.files.opens c.self.inside.down c.self.view_is c.requires.room) c.in-Ok.ensures.lists c.in-Ok.ensures.leaves).goes
 
 pub returns-in-Ok-clause-goes_on : goal.returns-in-Ok-clause-goes_on
-returns-in-Ok-clause-goes_on g c = (tree_answered c.args.self.now c.self.inside.kfs c.tree.new.self c.self.inside.files.opens c.self.inside.down c.self.view_is (none_of c.self.inside.down c.if-is_some.ensures) (awake_in (book_of c.self.inside.kfs c.self.inside.files.opens c.self.inside.down) c.self.invariant (none_of c.self.inside.down c.if-is_some.ensures)) c.in-Ok.ensures.rest c.in-Ok.items (keys_in c.args.self.now c.self.inside.kfs c.self.inside.files.opens c.self.inside.down c.self.view_is c.requires.room) c.in-Ok.ensures.lists c.in-Ok.ensures.leaves).goes
+returns-in-Ok-clause-goes_on g c = (tree_answered c.args.self.now c.self.inside.kfs c.tree.new.self c.self.inside.files.opens c.self.inside.down c.self.view_is (none_of c.self.inside.down c.if-is_some.ensures) (awake_in (volume_of c.self.inside.kfs c.self.inside.files.opens c.self.inside.down) c.self.invariant (none_of c.self.inside.down c.if-is_some.ensures)) c.in-Ok.ensures.rest c.in-Ok.items (keys_in c.args.self.now c.self.inside.kfs c.self.inside.files.opens c.self.inside.down c.self.view_is c.requires.room) c.in-Ok.ensures.lists c.in-Ok.ensures.leaves).goes
 
 pub returns-in-Ok-clause-counts : goal.returns-in-Ok-clause-counts
-returns-in-Ok-clause-counts g c = (tree_answered c.args.self.now c.self.inside.kfs c.tree.new.self c.self.inside.files.opens c.self.inside.down c.self.view_is (none_of c.self.inside.down c.if-is_some.ensures) (awake_in (book_of c.self.inside.kfs c.self.inside.files.opens c.self.inside.down) c.self.invariant (none_of c.self.inside.down c.if-is_some.ensures)) c.in-Ok.ensures.rest c.in-Ok.items (keys_in c.args.self.now c.self.inside.kfs c.self.inside.files.opens c.self.inside.down c.self.view_is c.requires.room) c.in-Ok.ensures.lists c.in-Ok.ensures.leaves).counts
+returns-in-Ok-clause-counts g c = (tree_answered c.args.self.now c.self.inside.kfs c.tree.new.self c.self.inside.files.opens c.self.inside.down c.self.view_is (none_of c.self.inside.down c.if-is_some.ensures) (awake_in (volume_of c.self.inside.kfs c.self.inside.files.opens c.self.inside.down) c.self.invariant (none_of c.self.inside.down c.if-is_some.ensures)) c.in-Ok.ensures.rest c.in-Ok.items (keys_in c.args.self.now c.self.inside.kfs c.self.inside.files.opens c.self.inside.down c.self.view_is c.requires.room) c.in-Ok.ensures.lists c.in-Ok.ensures.leaves).counts
 
 pub returns-in-Ok-clause-down : goal.returns-in-Ok-clause-down
-returns-in-Ok-clause-down g c = (tree_answered c.args.self.now c.self.inside.kfs c.tree.new.self c.self.inside.files.opens c.self.inside.down c.self.view_is (none_of c.self.inside.down c.if-is_some.ensures) (awake_in (book_of c.self.inside.kfs c.self.inside.files.opens c.self.inside.down) c.self.invariant (none_of c.self.inside.down c.if-is_some.ensures)) c.in-Ok.ensures.rest c.in-Ok.items (keys_in c.args.self.now c.self.inside.kfs c.self.inside.files.opens c.self.inside.down c.self.view_is c.requires.room) c.in-Ok.ensures.lists c.in-Ok.ensures.leaves).keeps
+returns-in-Ok-clause-down g c = (tree_answered c.args.self.now c.self.inside.kfs c.tree.new.self c.self.inside.files.opens c.self.inside.down c.self.view_is (none_of c.self.inside.down c.if-is_some.ensures) (awake_in (volume_of c.self.inside.kfs c.self.inside.files.opens c.self.inside.down) c.self.invariant (none_of c.self.inside.down c.if-is_some.ensures)) c.in-Ok.ensures.rest c.in-Ok.items (keys_in c.args.self.now c.self.inside.kfs c.self.inside.files.opens c.self.inside.down c.self.view_is c.requires.room) c.in-Ok.ensures.lists c.in-Ok.ensures.leaves).keeps
 
 pub returns-in-Ok-clause-age : goal.returns-in-Ok-clause-age
 returns-in-Ok-clause-age g c = aged_by c.args.self.now c.self.inside.kfs c.tree.new.self c.self.inside.files.opens c.self.inside.down (0) (omega arith) c.self.view_is c.in-Ok.ensures.age

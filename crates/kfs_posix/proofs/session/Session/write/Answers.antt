@@ -6,7 +6,7 @@ use Rattle.kfs_path.specs.declared.call.Data.TheVariants.{Plain}
 use Rattle.kfs_posix.proofs.WriteAnswers.{write_answered, write_failed}
 use Rattle.kfs_posix.proofs.session.Session.write.Goals as goal
 use Rattle.kfs_posix.proofs.Shown.{showing_after, showing_in, awake_in}
-use Rattle.kfs_posix.specs.Book.{book_of}
+use Rattle.kfs_posix.specs.Volume.{volume_of}
 use Rattle.kfs_posix.specs.Answering.{refusal, down_after}
 
 pub returns-then-is_some-clause-goes_on : goal.returns-then-is_some-clause-goes_on
@@ -22,34 +22,34 @@ pub write-requires : goal.write-requires
 write-requires g c = age_in c.args.self.now c.self.inside.kfs c.self.inside.files.opens c.self.inside.down c.self.view_is c.requires
 
 pub refuse-requires : goal.refuse-requires
-refuse-requires g c = (write_failed c.args.self.now c.self.inside.kfs c.write.new.kfs c.self.inside.files.opens c.write.new.files.opens c.self.inside.down c.self.view_is (none_of c.self.inside.down c.if-is_some.ensures) (awake_in (book_of c.self.inside.kfs c.self.inside.files.opens c.self.inside.down) c.self.invariant (none_of c.self.inside.down c.if-is_some.ensures)) c.requires c.args.fd c.args.bytes.now c.in-Err.fault (refusal c.in-Err.fault) (down_after c.self.inside.down c.in-Err.fault) c.in-Err.ensures.does refl refl).answerable (showing_in c.args.self.now c.self.inside.kfs c.self.inside.files.opens c.self.inside.down c.self.view_is c.self.invariant)
+refuse-requires g c = (write_failed c.args.self.now c.self.inside.kfs c.write.new.kfs c.self.inside.files.opens c.write.new.files.opens c.self.inside.down c.self.view_is (none_of c.self.inside.down c.if-is_some.ensures) (awake_in (volume_of c.self.inside.kfs c.self.inside.files.opens c.self.inside.down) c.self.invariant (none_of c.self.inside.down c.if-is_some.ensures)) c.requires c.args.fd c.args.bytes.now c.in-Err.fault (refusal c.in-Err.fault) (down_after c.self.inside.down c.in-Err.fault) c.in-Err.ensures.does refl refl).answerable (showing_in c.args.self.now c.self.inside.kfs c.self.inside.files.opens c.self.inside.down c.self.view_is c.self.invariant)
 
 pub invariant_of-self-in-Err : goal.invariant_of-self-in-Err
-invariant_of-self-in-Err g c = showing_after c.args.self.now c.self.inside.kfs c.self.inside.files.opens c.self.inside.down c.self.view_is (none_of c.self.inside.down c.if-is_some.ensures) c.self.invariant _ _ _ (write_failed c.args.self.now c.self.inside.kfs c.write.new.kfs c.self.inside.files.opens c.write.new.files.opens c.self.inside.down c.self.view_is (none_of c.self.inside.down c.if-is_some.ensures) (awake_in (book_of c.self.inside.kfs c.self.inside.files.opens c.self.inside.down) c.self.invariant (none_of c.self.inside.down c.if-is_some.ensures)) c.requires c.args.fd c.args.bytes.now c.in-Err.fault c.refuse.result c.refuse.new.down c.in-Err.ensures.does c.refuse.ensures.reply c.refuse.ensures.down).happens.goes
+invariant_of-self-in-Err g c = showing_after c.args.self.now c.self.inside.kfs c.self.inside.files.opens c.self.inside.down c.self.view_is (none_of c.self.inside.down c.if-is_some.ensures) c.self.invariant _ _ _ (write_failed c.args.self.now c.self.inside.kfs c.write.new.kfs c.self.inside.files.opens c.write.new.files.opens c.self.inside.down c.self.view_is (none_of c.self.inside.down c.if-is_some.ensures) (awake_in (volume_of c.self.inside.kfs c.self.inside.files.opens c.self.inside.down) c.self.invariant (none_of c.self.inside.down c.if-is_some.ensures)) c.requires c.args.fd c.args.bytes.now c.in-Err.fault c.refuse.result c.refuse.new.down c.in-Err.ensures.does c.refuse.ensures.reply c.refuse.ensures.down).happens.goes
 
 pub returns-in-Err-clause-goes_on : goal.returns-in-Err-clause-goes_on
-returns-in-Err-clause-goes_on g c = (write_failed c.args.self.now c.self.inside.kfs c.write.new.kfs c.self.inside.files.opens c.write.new.files.opens c.self.inside.down c.self.view_is (none_of c.self.inside.down c.if-is_some.ensures) (awake_in (book_of c.self.inside.kfs c.self.inside.files.opens c.self.inside.down) c.self.invariant (none_of c.self.inside.down c.if-is_some.ensures)) c.requires c.args.fd c.args.bytes.now c.in-Err.fault c.refuse.result c.refuse.new.down c.in-Err.ensures.does c.refuse.ensures.reply c.refuse.ensures.down).happens.goes
+returns-in-Err-clause-goes_on g c = (write_failed c.args.self.now c.self.inside.kfs c.write.new.kfs c.self.inside.files.opens c.write.new.files.opens c.self.inside.down c.self.view_is (none_of c.self.inside.down c.if-is_some.ensures) (awake_in (volume_of c.self.inside.kfs c.self.inside.files.opens c.self.inside.down) c.self.invariant (none_of c.self.inside.down c.if-is_some.ensures)) c.requires c.args.fd c.args.bytes.now c.in-Err.fault c.refuse.result c.refuse.new.down c.in-Err.ensures.does c.refuse.ensures.reply c.refuse.ensures.down).happens.goes
 
 pub returns-in-Err-clause-counts : goal.returns-in-Err-clause-counts
-returns-in-Err-clause-counts g c = (write_failed c.args.self.now c.self.inside.kfs c.write.new.kfs c.self.inside.files.opens c.write.new.files.opens c.self.inside.down c.self.view_is (none_of c.self.inside.down c.if-is_some.ensures) (awake_in (book_of c.self.inside.kfs c.self.inside.files.opens c.self.inside.down) c.self.invariant (none_of c.self.inside.down c.if-is_some.ensures)) c.requires c.args.fd c.args.bytes.now c.in-Err.fault c.refuse.result c.refuse.new.down c.in-Err.ensures.does c.refuse.ensures.reply c.refuse.ensures.down).happens.counts
+returns-in-Err-clause-counts g c = (write_failed c.args.self.now c.self.inside.kfs c.write.new.kfs c.self.inside.files.opens c.write.new.files.opens c.self.inside.down c.self.view_is (none_of c.self.inside.down c.if-is_some.ensures) (awake_in (volume_of c.self.inside.kfs c.self.inside.files.opens c.self.inside.down) c.self.invariant (none_of c.self.inside.down c.if-is_some.ensures)) c.requires c.args.fd c.args.bytes.now c.in-Err.fault c.refuse.result c.refuse.new.down c.in-Err.ensures.does c.refuse.ensures.reply c.refuse.ensures.down).happens.counts
 
 pub returns-in-Err-clause-down : goal.returns-in-Err-clause-down
-returns-in-Err-clause-down g c = (write_failed c.args.self.now c.self.inside.kfs c.write.new.kfs c.self.inside.files.opens c.write.new.files.opens c.self.inside.down c.self.view_is (none_of c.self.inside.down c.if-is_some.ensures) (awake_in (book_of c.self.inside.kfs c.self.inside.files.opens c.self.inside.down) c.self.invariant (none_of c.self.inside.down c.if-is_some.ensures)) c.requires c.args.fd c.args.bytes.now c.in-Err.fault c.refuse.result c.refuse.new.down c.in-Err.ensures.does c.refuse.ensures.reply c.refuse.ensures.down).happens.keeps
+returns-in-Err-clause-down g c = (write_failed c.args.self.now c.self.inside.kfs c.write.new.kfs c.self.inside.files.opens c.write.new.files.opens c.self.inside.down c.self.view_is (none_of c.self.inside.down c.if-is_some.ensures) (awake_in (volume_of c.self.inside.kfs c.self.inside.files.opens c.self.inside.down) c.self.invariant (none_of c.self.inside.down c.if-is_some.ensures)) c.requires c.args.fd c.args.bytes.now c.in-Err.fault c.refuse.result c.refuse.new.down c.in-Err.ensures.does c.refuse.ensures.reply c.refuse.ensures.down).happens.keeps
 
 pub returns-in-Err-clause-age : goal.returns-in-Err-clause-age
 returns-in-Err-clause-age g c = aged_by c.args.self.now c.self.inside.kfs c.write.new.kfs c.self.inside.files.opens c.self.inside.down (2 ^ 25) (omega arith) c.self.view_is c.in-Err.ensures.age
 
 pub invariant_of-self : goal.invariant_of-self
-invariant_of-self g c = showing_after c.args.self.now c.self.inside.kfs c.self.inside.files.opens c.self.inside.down c.self.view_is (none_of c.self.inside.down c.if-is_some.ensures) c.self.invariant _ _ _ (write_answered c.args.self.now c.self.inside.kfs c.write.new.kfs c.self.inside.files.opens c.write.new.files.opens c.self.inside.down c.self.view_is (none_of c.self.inside.down c.if-is_some.ensures) (awake_in (book_of c.self.inside.kfs c.self.inside.files.opens c.self.inside.down) c.self.invariant (none_of c.self.inside.down c.if-is_some.ensures)) c.requires c.args.fd c.args.bytes.now c.in-Ok.count c.in-Ok.ensures.does).goes
+invariant_of-self g c = showing_after c.args.self.now c.self.inside.kfs c.self.inside.files.opens c.self.inside.down c.self.view_is (none_of c.self.inside.down c.if-is_some.ensures) c.self.invariant _ _ _ (write_answered c.args.self.now c.self.inside.kfs c.write.new.kfs c.self.inside.files.opens c.write.new.files.opens c.self.inside.down c.self.view_is (none_of c.self.inside.down c.if-is_some.ensures) (awake_in (volume_of c.self.inside.kfs c.self.inside.files.opens c.self.inside.down) c.self.invariant (none_of c.self.inside.down c.if-is_some.ensures)) c.requires c.args.fd c.args.bytes.now c.in-Ok.count c.in-Ok.ensures.does).goes
 
 pub returns-in-Ok-clause-goes_on : goal.returns-in-Ok-clause-goes_on
-returns-in-Ok-clause-goes_on g c = (write_answered c.args.self.now c.self.inside.kfs c.write.new.kfs c.self.inside.files.opens c.write.new.files.opens c.self.inside.down c.self.view_is (none_of c.self.inside.down c.if-is_some.ensures) (awake_in (book_of c.self.inside.kfs c.self.inside.files.opens c.self.inside.down) c.self.invariant (none_of c.self.inside.down c.if-is_some.ensures)) c.requires c.args.fd c.args.bytes.now c.in-Ok.count c.in-Ok.ensures.does).goes
+returns-in-Ok-clause-goes_on g c = (write_answered c.args.self.now c.self.inside.kfs c.write.new.kfs c.self.inside.files.opens c.write.new.files.opens c.self.inside.down c.self.view_is (none_of c.self.inside.down c.if-is_some.ensures) (awake_in (volume_of c.self.inside.kfs c.self.inside.files.opens c.self.inside.down) c.self.invariant (none_of c.self.inside.down c.if-is_some.ensures)) c.requires c.args.fd c.args.bytes.now c.in-Ok.count c.in-Ok.ensures.does).goes
 
 pub returns-in-Ok-clause-counts : goal.returns-in-Ok-clause-counts
-returns-in-Ok-clause-counts g c = (write_answered c.args.self.now c.self.inside.kfs c.write.new.kfs c.self.inside.files.opens c.write.new.files.opens c.self.inside.down c.self.view_is (none_of c.self.inside.down c.if-is_some.ensures) (awake_in (book_of c.self.inside.kfs c.self.inside.files.opens c.self.inside.down) c.self.invariant (none_of c.self.inside.down c.if-is_some.ensures)) c.requires c.args.fd c.args.bytes.now c.in-Ok.count c.in-Ok.ensures.does).counts
+returns-in-Ok-clause-counts g c = (write_answered c.args.self.now c.self.inside.kfs c.write.new.kfs c.self.inside.files.opens c.write.new.files.opens c.self.inside.down c.self.view_is (none_of c.self.inside.down c.if-is_some.ensures) (awake_in (volume_of c.self.inside.kfs c.self.inside.files.opens c.self.inside.down) c.self.invariant (none_of c.self.inside.down c.if-is_some.ensures)) c.requires c.args.fd c.args.bytes.now c.in-Ok.count c.in-Ok.ensures.does).counts
 
 pub returns-in-Ok-clause-down : goal.returns-in-Ok-clause-down
-returns-in-Ok-clause-down g c = (write_answered c.args.self.now c.self.inside.kfs c.write.new.kfs c.self.inside.files.opens c.write.new.files.opens c.self.inside.down c.self.view_is (none_of c.self.inside.down c.if-is_some.ensures) (awake_in (book_of c.self.inside.kfs c.self.inside.files.opens c.self.inside.down) c.self.invariant (none_of c.self.inside.down c.if-is_some.ensures)) c.requires c.args.fd c.args.bytes.now c.in-Ok.count c.in-Ok.ensures.does).keeps
+returns-in-Ok-clause-down g c = (write_answered c.args.self.now c.self.inside.kfs c.write.new.kfs c.self.inside.files.opens c.write.new.files.opens c.self.inside.down c.self.view_is (none_of c.self.inside.down c.if-is_some.ensures) (awake_in (volume_of c.self.inside.kfs c.self.inside.files.opens c.self.inside.down) c.self.invariant (none_of c.self.inside.down c.if-is_some.ensures)) c.requires c.args.fd c.args.bytes.now c.in-Ok.count c.in-Ok.ensures.does).keeps
 
 pub returns-in-Ok-clause-age : goal.returns-in-Ok-clause-age
 returns-in-Ok-clause-age g c = aged_by c.args.self.now c.self.inside.kfs c.write.new.kfs c.self.inside.files.opens c.self.inside.down (2 ^ 25) (omega arith) c.self.view_is c.in-Ok.ensures.age

@@ -8,24 +8,24 @@ use Rattle.kfs_model.specs.Tree.{Limits}
 use Rattle.kfs_model.specs.Life.{State, Now, Up, Down, Past, tree_at, AnyOf, Event}
 use Rattle.kfs_tx.specs.Tx.{age_of}
 use Rattle.kfs_core.specs.Starting.{first_objects}
-use Rattle.kfs_posix.specs.Book.{SessionState, limits_of, running_in}
+use Rattle.kfs_posix.specs.Volume.{SessionState, limits_of, running_in}
 use Rattle.kfs_posix.specs.Showing.{ShowsState, IsSaved, one_if}
 use Rattle.kfs_posix.specs.Mounting.{limits_in}
-use Rattle.kfs_runner.specs.declared.seat.Seat.{Seat}
-use Rattle.kfs_runner.specs.declared.seat.Seat.TheVariants as seats
+use Rattle.kfs_runner.specs.declared.mount_point.MountPoint.{MountPoint}
+use Rattle.kfs_runner.specs.declared.mount_point.MountPoint.TheVariants as points
 use Rattle.kfs_runner.specs.Strikes.{Strikes, strikes_of, struck}
 use Rattle.kfs_runner.specs.Numbers.{line_age}
 use Rattle.kfs_runner.specs.Refusals.{Rested, damaged_in, whole_in, AnswersDamage}
 
 -- a session with its device, or a device that is down with the greatest number in it and the image that it rests on
-pub data Seated : Type 0 where
-  Mounted : (session : SessionState) → Seated
-  Bare : (machine : Machine) (age : ℕ) (rested : Option Rested) → Seated
+pub data MountState : Type 0 where
+  Mounted : (session : SessionState) → MountState
+  Bare : (machine : Machine) (age : ℕ) (rested : Option Rested) → MountState
 
--- what a seat is, by what its device is without a session
-abbrev pub seated : {A B : Type 0} → (A → Machine) → (A → ℕ) → (A → Option Rested) → Seat A B → Seated
-seated machine age rested (seats.Mounted session) = Mounted session
-seated machine age rested (seats.Bare store) = Bare (machine store) (age store) (rested store)
+-- what a point is, by what its device is without a session
+abbrev pub mount_state : {A B : Type 0} → (A → Machine) → (A → ℕ) → (A → Option Rested) → MountPoint A B → MountState
+mount_state machine age rested (points.Mounted session) = Mounted session
+mount_state machine age rested (points.Bare store) = Bare (machine store) (age store) (rested store)
 
 -- one cut is planned exactly where it is armed, and one fault at most where it is
 pub record AreArmed (m : Machine) (s : State) : Type 0 where
@@ -58,35 +58,35 @@ pub record ShowsBare (m : Machine) (s : State) : Type 0 where
   pub down : IsDown s.now
   pub stores : Stores m s
 
-abbrev pub shows_seat : Seated → State → Type 0
-shows_seat (Mounted session) s = ShowsState session.book s
-shows_seat (Bare machine age rested) s = ShowsBare machine s
+abbrev pub shows_point : MountState → State → Type 0
+shows_point (Mounted session) s = ShowsState session.volume s
+shows_point (Bare machine age rested) s = ShowsBare machine s
 
-abbrev pub seat_limits : Seated → Limits
-seat_limits (Mounted session) = limits_of session.book
-seat_limits (Bare machine age rested) = limits_in machine
+abbrev pub point_limits : MountState → Limits
+point_limits (Mounted session) = limits_of session.volume
+point_limits (Bare machine age rested) = limits_in machine
 
 -- the greatest number of cuts and of faults that may come
 abbrev pub most_of : Machine → ℕ
 most_of m = max m.most_cuts m.most_faults
 
-abbrev pub seat_age : Seated → ℕ
-seat_age (Mounted session) = max (age_of (running_in session)) (most_of session.book.tx.machine)
-seat_age (Bare machine age rested) = most_of machine
+abbrev pub point_age : MountState → ℕ
+point_age (Mounted session) = max (age_of (running_in session)) (most_of session.volume.tx.machine)
+point_age (Bare machine age rested) = most_of machine
 
 -- the greatest number that its device has written
-abbrev pub device_age : Seated → ℕ
+abbrev pub device_age : MountState → ℕ
 device_age (Mounted session) = session.device_age
 device_age (Bare machine age rested) = age
 
 -- the device that it has
-abbrev pub seat_machine : Seated → Machine
-seat_machine (Mounted session) = session.book.tx.machine
-seat_machine (Bare machine age rested) = machine
+abbrev pub point_machine : MountState → Machine
+point_machine (Mounted session) = session.volume.tx.machine
+point_machine (Bare machine age rested) = machine
 
 -- how often power was cut, and how often an operation failed
-abbrev pub seat_strikes : Seated → Strikes
-seat_strikes seat = strikes_of (seat_machine seat)
+abbrev pub point_strikes : MountState → Strikes
+point_strikes point = strikes_of (point_machine point)
 
 -- a device that is up with a new file system alone, for which no cut and no fault is planned
 pub record IsNew (m : Machine) : Type 0 where
@@ -98,38 +98,38 @@ pub record IsNew (m : Machine) : Type 0 where
   pub few_cuts : m.cuts ≤ 2 ^ 62
   pub few_faults : m.faults ≤ 2 ^ 62
 
--- what is known of each seat: a session shows some state, and of a device without one the counts are those of one
-abbrev pub Known : Seated → Type 0
-Known (Mounted session) = (s : State) × ShowsState session.book s
+-- what is known of each point: a session shows some state, and of a device without one the counts are those of one
+abbrev pub Known : MountState → Type 0
+Known (Mounted session) = (s : State) × ShowsState session.volume s
 Known (Bare machine age rested) = (s : State) × AreArmed machine s
 
 -- the image that a device without a session rests on
-abbrev pub seat_rested : Seated → Option Rested
-seat_rested (Mounted session) = None
-seat_rested (Bare machine age rested) = rested
+abbrev pub point_rested : MountState → Option Rested
+point_rested (Mounted session) = None
+point_rested (Bare machine age rested) = rested
 
 -- a mount takes the image, up to the limit on its numbers
-abbrev pub IsSeatWhole : Seated → Type 0
-IsSeatWhole seat = whole_in (seat_rested seat)
+abbrev pub IsPointWhole : MountState → Type 0
+IsPointWhole point = whole_in (point_rested point)
 
 -- the numbers at which the device may stand are those that a mount takes
 abbrev pub IsLow : State → Type 0
 IsLow s = (past : Past) (k : ℕ) → StandsAt s.now past k → (k < 2 ^ 62) × ((tree_at past k).next < 2 ^ 62)
 
 -- behind a session the image is one that a mount takes; without one the device is kept as it was
-abbrev pub KeptBy : Seated → Machine → Option Rested → Type 0
+abbrev pub KeptBy : MountState → Machine → Option Rested → Type 0
 KeptBy (Mounted session) now rested = whole_in rested
 KeptBy (Bare machine age before) now rested = (now ≡ machine) × (rested ≡ before)
 
 -- a line and its answer. What is known stays so, and the answer tells each cut and each fault. From each state that was shown, where nothing of it is
 -- refused, they lead to one that is shown now. On a damaged image they are what that damage is answered, and the image stays
-pub record SeatGoes (old : Seated) (line : Line) (answer : Answer) (new : Seated) : Type 0 where
+pub record PointGoes (old : MountState) (line : Line) (answer : Answer) (new : MountState) : Type 0 where
   pub known : Known new
-  pub limits : seat_limits new ≡ seat_limits old
-  pub age : seat_age new ≤ max (seat_age old) (2 ^ 62) + line_age
+  pub limits : point_limits new ≡ point_limits old
+  pub age : point_age new ≤ max (point_age old) (2 ^ 62) + line_age
   pub device : device_age new ≤ device_age old + line_age
-  pub strikes : seat_strikes new ≡ struck (seat_strikes old) answer
-  pub whole : IsSeatWhole old → device_age old < 2 ^ 62 → IsSeatWhole new
-  pub each : (s : State) → shows_seat old s → IsLow s → IsSeatWhole old → device_age old < 2 ^ 62 →
-      (t : State) × Event (seat_limits old) s line answer t × shows_seat new t
-  pub damaged : (damage : Damage) → damaged_in (seat_rested old) damage → AnswersDamage damage line answer × (seat_rested new ≡ seat_rested old)
+  pub strikes : point_strikes new ≡ struck (point_strikes old) answer
+  pub whole : IsPointWhole old → device_age old < 2 ^ 62 → IsPointWhole new
+  pub each : (s : State) → shows_point old s → IsLow s → IsPointWhole old → device_age old < 2 ^ 62 →
+      (t : State) × Event (point_limits old) s line answer t × shows_point new t
+  pub damaged : (damage : Damage) → damaged_in (point_rested old) damage → AnswersDamage damage line answer × (point_rested new ≡ point_rested old)

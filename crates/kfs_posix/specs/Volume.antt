@@ -12,7 +12,7 @@ use Rattle.kfs_tx.specs.Codes.{tx_code, asked_code}
 use Rattle.kfs_core.specs.Core.{KfsState}
 use Rattle.kfs_posix.specs.Opens.{Opens, opens_code}
 
-pub record Book : Type 0 where
+pub record Volume : Type 0 where
   pub tx : Tx
   pub keys : ℕ
   pub pages : ℕ
@@ -23,21 +23,21 @@ pub record Book : Type 0 where
 
 -- a session, as its callers see it
 pub record SessionState : Type 0 where
-  pub book : Book
+  pub volume : Volume
   pub device_age : ℕ
   pub asked : Asked
 
-abbrev pub book_of : KfsState → Opens → Option Cause → Book
-book_of kfs files down = record { tx = kfs.running.tx; keys = kfs.keys; pages = kfs.pages; charge = kfs.charge; chunks = kfs.chunks; files = files; down = down }
+abbrev pub volume_of : KfsState → Opens → Option Cause → Volume
+volume_of kfs files down = record { tx = kfs.running.tx; keys = kfs.keys; pages = kfs.pages; charge = kfs.charge; chunks = kfs.chunks; files = files; down = down }
 
 abbrev pub state_of : KfsState → Opens → Option Cause → SessionState
-state_of kfs files down = record { book = book_of kfs files down; device_age = kfs.running.device_age; asked = kfs.running.asked }
+state_of kfs files down = record { volume = volume_of kfs files down; device_age = kfs.running.device_age; asked = kfs.running.asked }
 
 -- its running transaction
 abbrev pub running_in : SessionState → RunningState
-running_in s = record { tx = s.book.tx; device_age = s.device_age; asked = s.asked }
+running_in s = record { tx = s.volume.tx; device_age = s.device_age; asked = s.asked }
 
-abbrev pub limits_of : Book → Limits
+abbrev pub limits_of : Volume → Limits
 limits_of b = record { keys = b.keys; pages = b.pages }
 
 abbrev pub cause_of : DeviceFault → Cause
@@ -62,8 +62,8 @@ cause_at-number_of Cut = refl
 cause_at-number_of Eio = refl
 cause_at-number_of NoMem = refl
 
-abbrev pub book_code : Coded Book
-book_code =
+abbrev pub volume_code : Coded Volume
+volume_code =
     code_by (Tx × (ℕ × (ℕ × (ℕ × (ℕ × (Opens × Option Cause)))))) (coded× tx_code (coded× coded_ℕ (coded× coded_ℕ (coded× coded_ℕ (coded× coded_ℕ (coded× opens_code (coded_option (code_by ℕ coded_ℕ number_of cause_at cause_at-number_of))))))))
     (λ b. (b.tx, (b.keys, (b.pages, (b.charge, (b.chunks, (b.files, b.down)))))))
     (λ p. record { tx = p.0; keys = p.1.0; pages = p.1.1.0; charge = p.1.1.1.0; chunks = p.1.1.1.1.0; files = p.1.1.1.1.1.0; down = p.1.1.1.1.1.1 })
@@ -71,7 +71,7 @@ book_code =
 
 abbrev pub session_code : Coded SessionState
 session_code =
-    code_by (Book × (ℕ × Asked)) (coded× book_code (coded× coded_ℕ asked_code))
-    (λ s. (s.book, (s.device_age, s.asked)))
-    (λ p. record { book = p.0; device_age = p.1.0; asked = p.1.1 })
+    code_by (Volume × (ℕ × Asked)) (coded× volume_code (coded× coded_ℕ asked_code))
+    (λ s. (s.volume, (s.device_age, s.asked)))
+    (λ p. record { volume = p.0; device_age = p.1.0; asked = p.1.1 })
     (λ _. refl)

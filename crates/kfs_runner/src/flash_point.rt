@@ -12,7 +12,7 @@ ghost use Rattle.kfs_runner.specs.Strikes.{strikes_of};
 
 use crate::flash::{Resting, with_cache};
 use crate::host::Host;
-use crate::seat::Seat;
+use crate::mount_point::MountPoint;
 use kfs_cache::Cached;
 use kfs_core::format;
 use kssd_engine::Ssd;
@@ -54,20 +54,20 @@ fn new_cached<N: PlannedNand + Drop>(alloc: Global, nand: N) -> Result<Cached<Ss
 pub fn format_flash<N: PlannedNand + Drop>(
     alloc: Global,
     nand: N,
-) -> Result<Seat<Resting<N>>, Memory>
+) -> Result<MountPoint<Resting<N>>, Memory>
     requires blocks { (256 ≤ (N.flash nand).blocks) × ((N.flash nand).blocks ≤ 2048) }
     requires unplanned { IsUnplanned (N.flash nand) }
-    ensures shows { IfOk result (λ seat. ⟦<Seat<Resting<N>> as Host>⟧.shows seat newborn) }
-    ensures known { IfOk result (λ seat. ⟦<Seat<Resting<N>> as Host>⟧.known seat) }
-    ensures whole { IfOk result (λ seat. ⟦<Seat<Resting<N>> as Host>⟧.whole seat) }
-    ensures limits { IfOk result (λ seat. ⟦<Seat<Resting<N>> as Host>⟧.limits seat ≡ limits_of (N.flash nand).blocks) }
-    ensures age { IfOk result (λ seat. ⟦<Seat<Resting<N>> as Host>⟧.age seat ≤ 2 ^ 62) }
-    ensures device_age { IfOk result (λ seat. ⟦<Seat<Resting<N>> as Host>⟧.device_age seat ≤ 2 ^ 61) }
-    ensures strikes { IfOk result (λ seat. ⟦<Seat<Resting<N>> as Host>⟧.strikes seat ≡ strikes_of (new_on (N.flash nand))) }
+    ensures shows { IfOk result (λ point. ⟦<MountPoint<Resting<N>> as Host>⟧.shows point newborn) }
+    ensures known { IfOk result (λ point. ⟦<MountPoint<Resting<N>> as Host>⟧.known point) }
+    ensures whole { IfOk result (λ point. ⟦<MountPoint<Resting<N>> as Host>⟧.whole point) }
+    ensures limits { IfOk result (λ point. ⟦<MountPoint<Resting<N>> as Host>⟧.limits point ≡ limits_of (N.flash nand).blocks) }
+    ensures age { IfOk result (λ point. ⟦<MountPoint<Resting<N>> as Host>⟧.age point ≤ 2 ^ 62) }
+    ensures device_age { IfOk result (λ point. ⟦<MountPoint<Resting<N>> as Host>⟧.device_age point ≤ 2 ^ 61) }
+    ensures strikes { IfOk result (λ point. ⟦<MountPoint<Resting<N>> as Host>⟧.strikes point ≡ strikes_of (new_on (N.flash nand))) }
 {
     let mut device = new_cached(alloc, nand)?;
     match format(alloc, &mut device) {
-        Ok(()) => Seat::begin(alloc, device),
+        Ok(()) => MountPoint::begin(alloc, device),
         Err(_) => Err(Memory),
     }
 }

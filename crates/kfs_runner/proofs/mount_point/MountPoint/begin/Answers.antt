@@ -1,6 +1,6 @@
 use Rattle.kfs_model.specs.Life.{newborn}
-use Rattle.kfs_runner.proofs.SeatLaws.{begins}
-use Rattle.kfs_runner.proofs.seat.Seat.begin.Goals as goal
+use Rattle.kfs_runner.proofs.PointLaws.{begins}
+use Rattle.kfs_runner.proofs.mount_point.MountPoint.begin.Goals as goal
 
 pub returns-in-Ok-clause-shows : goal.returns-in-Ok-clause-shows
 returns-in-Ok-clause-shows g c =

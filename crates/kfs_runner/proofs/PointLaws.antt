@@ -30,22 +30,22 @@ use Rattle.kfs_posix.proofs.Mounting.{saved_still, whole_saved}
 use Rattle.kfs_posix.proofs.Shown.{planned as planned_goes}
 use Rattle.kfs_core.specs.Starting.{NotMounted, HostCause, first_objects}
 use Rattle.kfs_posix.specs.Answering.{Counts}
-use Rattle.kfs_posix.specs.Book.{Book, SessionState, limits_of, running_in}
+use Rattle.kfs_posix.specs.Volume.{Volume, SessionState, limits_of, running_in}
 use Rattle.kfs_posix.specs.Showing.{ShowsLive, ShowsNow, ShowsState, IsSaved, GoesOn, one_if}
 use Rattle.kfs_posix.specs.Mounting.{limits_in, Mounts}
 use Rattle.kfs_runner.specs.Numbers.{line_age}
 use Rattle.kfs_runner.specs.Refusals.{Rested, whole_in}
 use Rattle.kfs_runner.specs.Stores.{WakeCause, NotWoken}
 use Rattle.kfs_runner.specs.Strikes.{strikes_of, struck, is_cut, is_failure}
-use Rattle.kfs_runner.specs.Seats.{Seated, Mounted, Bare, AreArmed, StandsAt, Stores, IsDown, ShowsBare, Known, IsNew, shows_seat, seat_limits, seat_machine, seat_age, device_age, most_of, SeatGoes}
+use Rattle.kfs_runner.specs.MountPoints.{MountState, Mounted, Bare, AreArmed, StandsAt, Stores, IsDown, ShowsBare, Known, IsNew, shows_point, point_limits, point_machine, point_age, device_age, most_of, PointGoes}
 
 -- ---- what is shown is stored
 
-pub limits_now : (b : Book) (now : Now) → ShowsNow b now → limits_of b ≡ limits_in b.tx.machine
+pub limits_now : (b : Volume) (now : Now) → ShowsNow b now → limits_of b ≡ limits_in b.tx.machine
 limits_now b (Up live) shows = λ i. record { keys = shows.keys i; pages = shows.pages i }
 limits_now b (Down past may) shows = λ i. record { keys = shows.keys i; pages = shows.pages i }
 
-stores_now : (b : Book) (now : Now) → ShowsNow b now → (past : Past) × (k : ℕ) × StandsAt now past k × IsSaved (limits_in b.tx.machine) b.tx.machine.stable (tree_at past k) k
+stores_now : (b : Volume) (now : Now) → ShowsNow b now → (past : Past) × (k : ℕ) × StandsAt now past k × IsSaved (limits_in b.tx.machine) b.tx.machine.stable (tree_at past k) k
 stores_now b (Up live) shows =
     let P : Limits → Type 0 = λ l. IsSaved l b.tx.machine.stable (tree_at live.past live.mark) live.mark in
     (live.past, live.mark, (refl, refl), subst P (limits_now b (Up live) shows) (whole_saved (limits_of b) b.tx.machine.stable (tree_at live.past live.mark) live.mark shows.saved))
@@ -53,7 +53,7 @@ stores_now b (Down past may) shows =
     let P : Limits → Type 0 = λ l. IsSaved l b.tx.machine.stable (tree_at past shows.stands) shows.stands in
     (past, shows.stands, (refl, shows.may_be), subst P (limits_now b (Down past may) shows) (whole_saved (limits_of b) b.tx.machine.stable (tree_at past shows.stands) shows.stands shows.saved))
 
-armed_session : (b : Book) (s : State) → ShowsState b s → AreArmed b.tx.machine s
+armed_session : (b : Volume) (s : State) → ShowsState b s → AreArmed b.tx.machine s
 armed_session b s shows = record {
   cuts = shows.cuts;
   faults = shows.faults;
@@ -63,29 +63,29 @@ armed_session b s shows = record {
   few_faults = shows.few_faults;
 }
 
-pub seat_stores : (seat : Seated) (s : State) → shows_seat seat s → Stores (seat_machine seat) s
-seat_stores (Mounted session) s shows =
-    let it = stores_now session.book s.now shows.now in
-    record { past = it.0; k = it.1; stands = it.2; saved = it.3; armed = armed_session session.book s shows }
-seat_stores (Bare m age rested) s shows = shows.stores
+pub point_stores : (point : MountState) (s : State) → shows_point point s → Stores (point_machine point) s
+point_stores (Mounted session) s shows =
+    let it = stores_now session.volume s.now shows.now in
+    record { past = it.0; k = it.1; stands = it.2; saved = it.3; armed = armed_session session.volume s shows }
+point_stores (Bare m age rested) s shows = shows.stores
 
-pub seat_room : (seat : Seated) (s : State) → shows_seat seat s → seat_limits seat ≡ limits_in (seat_machine seat)
-seat_room (Mounted session) s shows = limits_now session.book s.now shows.now
-seat_room (Bare m age rested) s shows = refl
+pub point_room : (point : MountState) (s : State) → shows_point point s → point_limits point ≡ limits_in (point_machine point)
+point_room (Mounted session) s shows = limits_now session.volume s.now shows.now
+point_room (Bare m age rested) s shows = refl
 
 -- what is known has the room of its device, and the counts of some state
-pub known_room : (seat : Seated) → Known seat → seat_limits seat ≡ limits_in (seat_machine seat)
-known_room (Mounted session) known = limits_now session.book known.0.now known.1.now
+pub known_room : (point : MountState) → Known point → point_limits point ≡ limits_in (point_machine point)
+known_room (Mounted session) known = limits_now session.volume known.0.now known.1.now
 known_room (Bare m age rested) known = refl
 
-pub known_armed : (seat : Seated) → Known seat → (s : State) × AreArmed (seat_machine seat) s
-known_armed (Mounted session) known = (known.0, armed_session session.book known.0 known.1)
+pub known_armed : (point : MountState) → Known point → (s : State) × AreArmed (point_machine point) s
+known_armed (Mounted session) known = (known.0, armed_session session.volume known.0 known.1)
 known_armed (Bare m age rested) known = known
 
-pub seat_keys : (seat : Seated) → Known seat → (seat_limits seat).keys ≡ (seat_machine seat).room_keys
-seat_keys seat known = ap (λ (l : Limits). l.keys) (known_room seat known)
+pub point_keys : (point : MountState) → Known point → (point_limits point).keys ≡ (point_machine point).room_keys
+point_keys point known = ap (λ (l : Limits). l.keys) (known_room point known)
 
-pub most_le : (seat : Seated) → most_of (seat_machine seat) ≤ seat_age seat
+pub most_le : (point : MountState) → most_of (point_machine point) ≤ point_age point
 most_le (Mounted session) = omega arith
 most_le (Bare m age rested) = omega arith
 
@@ -103,9 +103,9 @@ unstruck old new answer no_cut no_failure cuts faults =
     λ i. record { cuts = cuts_now i; faults = faults_now i }
 
 -- what is known has few counts
-pub low_counts : (seat : Seated) → Known seat → ((seat_machine seat).cuts < 2 ^ 63) × ((seat_machine seat).faults < 2 ^ 63)
-low_counts seat known =
-    let armed = (known_armed seat known).1 in
+pub low_counts : (point : MountState) → Known point → ((point_machine point).cuts < 2 ^ 63) × ((point_machine point).faults < 2 ^ 63)
+low_counts point known =
+    let armed = (known_armed point known).1 in
     (omega (arith, armed.most_cuts, armed.few_cuts), omega (arith, armed.most_faults, armed.few_faults))
 
 -- ---- a call
@@ -130,24 +130,24 @@ struck_by_reply old new (replies.Down causes.Eio) low_cuts low_faults c =
 struck_by_reply old new reply low_cuts low_faults c = unstruck old new (answers.Reply reply) refl refl c.0 c.1
 
 -- what a line of a session leads to
-event_of : (old new : Book) (line : Line) (answer : Answer) → GoesOn old line answer new → (s : State) → ShowsState old s → (t : State) × Event (limits_of old) s line answer t × ShowsState new t
+event_of : (old new : Volume) (line : Line) (answer : Answer) → GoesOn old line answer new → (s : State) → ShowsState old s → (t : State) × Event (limits_of old) s line answer t × ShowsState new t
 event_of old new line answer goes s shows = planned_goes old line answer new goes s shows
 
-pub call_goes : (old new : SessionState) (call : Call) (reply : Reply) → Known (Mounted old) → GoesOn old.book (lines.Call call) (answers.Reply reply) new.book → Counts old.book.tx.machine reply new.book.tx.machine → limits_of new.book ≡ limits_of old.book → Aged (running_in old) (running_in new) (2 ^ 38) → SeatGoes (Mounted old) (lines.Call call) (answers.Reply reply) (Mounted new)
+pub call_goes : (old new : SessionState) (call : Call) (reply : Reply) → Known (Mounted old) → GoesOn old.volume (lines.Call call) (answers.Reply reply) new.volume → Counts old.volume.tx.machine reply new.volume.tx.machine → limits_of new.volume ≡ limits_of old.volume → Aged (running_in old) (running_in new) (2 ^ 38) → PointGoes (Mounted old) (lines.Call call) (answers.Reply reply) (Mounted new)
 call_goes old new call reply known goes counts room aged =
     let low = low_counts (Mounted old) known in
-    let it = event_of old.book new.book (lines.Call call) (answers.Reply reply) goes known.0 known.1 in
-    let few = counts_le old.book.tx.machine reply new.book.tx.machine counts known.1.most_cuts known.1.most_faults in
-    let cuts : new.book.tx.machine.most_cuts ≤ old.book.tx.machine.most_cuts + 1 = omega (arith, it.2.cuts, one_if_le it.0.cut_armed, few.0) in
-    let faults : new.book.tx.machine.most_faults ≤ old.book.tx.machine.most_faults + 1 = omega (arith, it.2.faults, one_if_le it.0.fail_armed, few.1) in
+    let it = event_of old.volume new.volume (lines.Call call) (answers.Reply reply) goes known.0 known.1 in
+    let few = counts_le old.volume.tx.machine reply new.volume.tx.machine counts known.1.most_cuts known.1.most_faults in
+    let cuts : new.volume.tx.machine.most_cuts ≤ old.volume.tx.machine.most_cuts + 1 = omega (arith, it.2.cuts, one_if_le it.0.cut_armed, few.0) in
+    let faults : new.volume.tx.machine.most_faults ≤ old.volume.tx.machine.most_faults + 1 = omega (arith, it.2.faults, one_if_le it.0.fail_armed, few.1) in
     record {
       known = (it.0, it.2);
       limits = room;
-      age = call_age (age_of (running_in old)) (age_of (running_in new)) old.book.tx.machine.most_cuts old.book.tx.machine.most_faults new.book.tx.machine.most_cuts new.book.tx.machine.most_faults aged.whole.bounded cuts faults;
+      age = call_age (age_of (running_in old)) (age_of (running_in new)) old.volume.tx.machine.most_cuts old.volume.tx.machine.most_faults new.volume.tx.machine.most_cuts new.volume.tx.machine.most_faults aged.whole.bounded cuts faults;
       device = omega (arith, aged.device.bounded);
-      strikes = struck_by_reply old.book.tx.machine new.book.tx.machine reply low.0 low.1 counts;
+      strikes = struck_by_reply old.volume.tx.machine new.volume.tx.machine reply low.0 low.1 counts;
       whole = λ before young. tt;
-      each = λ s shows at whole young. event_of old.book new.book (lines.Call call) (answers.Reply reply) goes s shows;
+      each = λ s shows at whole young. event_of old.volume new.volume (lines.Call call) (answers.Reply reply) goes s shows;
       damaged = λ damage none. absurd none;
     }
 
@@ -155,7 +155,7 @@ off_at : (l : Limits) (s : State) (now : Now) (call : Call) → IsDown now → E
 off_at l s (Up live) call down = absurd down
 off_at l s (Down past may) call down = (refl, refl)
 
-pub off_goes : (m : Machine) (age : ℕ) (rested : Option Rested) (call : Call) → Known (Bare m age rested) → SeatGoes (Bare m age rested) (lines.Call call) (answers.Reply replies.Off) (Bare m age rested)
+pub off_goes : (m : Machine) (age : ℕ) (rested : Option Rested) (call : Call) → Known (Bare m age rested) → PointGoes (Bare m age rested) (lines.Call call) (answers.Reply replies.Off) (Bare m age rested)
 off_goes m age rested call known = record {
   known = known;
   limits = refl;
@@ -163,7 +163,7 @@ off_goes m age rested call known = record {
   device = omega arith;
   strikes = unstruck m m (answers.Reply replies.Off) refl refl refl refl;
   whole = λ before young. before;
-  each = λ s shows at whole young. (s, off_at (seat_limits (Bare m age rested)) s s.now call shows.down, shows);
+  each = λ s shows at whole young. (s, off_at (point_limits (Bare m age rested)) s s.now call shows.down, shows);
   damaged = λ damage is. (refl, refl);
 }
 
@@ -186,39 +186,39 @@ fail_at l s (Down past may) kind n = (refl, refl)
 plan_age : (old_age new_age old_cuts old_faults cuts faults : ℕ) → new_age ≡ old_age → cuts ≤ old_cuts + 1 → faults ≤ old_faults + 1 → max new_age (max cuts faults) ≤ max (max old_age (max old_cuts old_faults)) (2 ^ 62) + line_age
 plan_age old_age new_age old_cuts old_faults cuts faults a b c = omega arith
 
-pub cut_goes : (old new : SessionState) (n how : ℕ) → Known (Mounted old) → (old.book.tx.machine.cuts + 1 < 2 ^ 63 → GoesOn old.book (lines.Cut n how) (answers.Reply replies.Done) new.book) → new.book.tx.machine ≡ with_most_cuts old.book.tx.machine → limits_of new.book ≡ limits_of old.book → age_of (running_in new) ≡ age_of (running_in old) → new.device_age ≡ old.device_age → seat_age (Mounted old) < 2 ^ 63 - 2 ^ 40 → SeatGoes (Mounted old) (lines.Cut n how) (answers.Reply replies.Done) (Mounted new)
+pub cut_goes : (old new : SessionState) (n how : ℕ) → Known (Mounted old) → (old.volume.tx.machine.cuts + 1 < 2 ^ 63 → GoesOn old.volume (lines.Cut n how) (answers.Reply replies.Done) new.volume) → new.volume.tx.machine ≡ with_most_cuts old.volume.tx.machine → limits_of new.volume ≡ limits_of old.volume → age_of (running_in new) ≡ age_of (running_in old) → new.device_age ≡ old.device_age → point_age (Mounted old) < 2 ^ 63 - 2 ^ 40 → PointGoes (Mounted old) (lines.Cut n how) (answers.Reply replies.Done) (Mounted new)
 cut_goes old new n how known goes planned room same device young =
     let most = most_le (Mounted old) in
-    let few : old.book.tx.machine.cuts + 1 < 2 ^ 63 = omega (arith, known.1.most_cuts, most, young) in
-    let it = event_of old.book new.book (lines.Cut n how) (answers.Reply replies.Done) (goes few) known.0 known.1 in
-    let cuts : new.book.tx.machine.most_cuts ≤ old.book.tx.machine.most_cuts + 1 = omega (arith, ap (λ (x : Machine). x.most_cuts) planned, known.1.most_cuts) in
-    let faults : new.book.tx.machine.most_faults ≤ old.book.tx.machine.most_faults + 1 = omega (arith, ap (λ (x : Machine). x.most_faults) planned) in
+    let few : old.volume.tx.machine.cuts + 1 < 2 ^ 63 = omega (arith, known.1.most_cuts, most, young) in
+    let it = event_of old.volume new.volume (lines.Cut n how) (answers.Reply replies.Done) (goes few) known.0 known.1 in
+    let cuts : new.volume.tx.machine.most_cuts ≤ old.volume.tx.machine.most_cuts + 1 = omega (arith, ap (λ (x : Machine). x.most_cuts) planned, known.1.most_cuts) in
+    let faults : new.volume.tx.machine.most_faults ≤ old.volume.tx.machine.most_faults + 1 = omega (arith, ap (λ (x : Machine). x.most_faults) planned) in
     record {
       known = (it.0, it.2);
       limits = room;
-      age = plan_age (age_of (running_in old)) (age_of (running_in new)) old.book.tx.machine.most_cuts old.book.tx.machine.most_faults new.book.tx.machine.most_cuts new.book.tx.machine.most_faults same cuts faults;
+      age = plan_age (age_of (running_in old)) (age_of (running_in new)) old.volume.tx.machine.most_cuts old.volume.tx.machine.most_faults new.volume.tx.machine.most_cuts new.volume.tx.machine.most_faults same cuts faults;
       device = omega (arith, device);
-      strikes = unstruck old.book.tx.machine new.book.tx.machine (answers.Reply replies.Done) refl refl (ap (λ (x : Machine). x.cuts) planned) (ap (λ (x : Machine). x.faults) planned);
+      strikes = unstruck old.volume.tx.machine new.volume.tx.machine (answers.Reply replies.Done) refl refl (ap (λ (x : Machine). x.cuts) planned) (ap (λ (x : Machine). x.faults) planned);
       whole = λ before low. tt;
-      each = λ s shows at whole low. event_of old.book new.book (lines.Cut n how) (answers.Reply replies.Done) (goes few) s shows;
+      each = λ s shows at whole low. event_of old.volume new.volume (lines.Cut n how) (answers.Reply replies.Done) (goes few) s shows;
       damaged = λ damage none. absurd none;
     }
 
-pub fail_goes : (old new : SessionState) (kind n : ℕ) → Known (Mounted old) → (old.book.tx.machine.faults + 1 < 2 ^ 63 → GoesOn old.book (lines.Fail kind n) (answers.Reply replies.Done) new.book) → new.book.tx.machine ≡ with_most_faults old.book.tx.machine new.book.tx.machine.most_faults → new.book.tx.machine.most_faults ≤ one_more old.book.tx.machine.faults → limits_of new.book ≡ limits_of old.book → age_of (running_in new) ≡ age_of (running_in old) → new.device_age ≡ old.device_age → seat_age (Mounted old) < 2 ^ 63 - 2 ^ 40 → SeatGoes (Mounted old) (lines.Fail kind n) (answers.Reply replies.Done) (Mounted new)
+pub fail_goes : (old new : SessionState) (kind n : ℕ) → Known (Mounted old) → (old.volume.tx.machine.faults + 1 < 2 ^ 63 → GoesOn old.volume (lines.Fail kind n) (answers.Reply replies.Done) new.volume) → new.volume.tx.machine ≡ with_most_faults old.volume.tx.machine new.volume.tx.machine.most_faults → new.volume.tx.machine.most_faults ≤ one_more old.volume.tx.machine.faults → limits_of new.volume ≡ limits_of old.volume → age_of (running_in new) ≡ age_of (running_in old) → new.device_age ≡ old.device_age → point_age (Mounted old) < 2 ^ 63 - 2 ^ 40 → PointGoes (Mounted old) (lines.Fail kind n) (answers.Reply replies.Done) (Mounted new)
 fail_goes old new kind n known goes planned bound room same device young =
     let most = most_le (Mounted old) in
-    let few : old.book.tx.machine.faults + 1 < 2 ^ 63 = omega (arith, known.1.most_faults, most, young) in
-    let it = event_of old.book new.book (lines.Fail kind n) (answers.Reply replies.Done) (goes few) known.0 known.1 in
-    let cuts : new.book.tx.machine.most_cuts ≤ old.book.tx.machine.most_cuts + 1 = omega (arith, ap (λ (x : Machine). x.most_cuts) planned) in
-    let faults : new.book.tx.machine.most_faults ≤ old.book.tx.machine.most_faults + 1 = omega (arith, bound, known.1.most_faults) in
+    let few : old.volume.tx.machine.faults + 1 < 2 ^ 63 = omega (arith, known.1.most_faults, most, young) in
+    let it = event_of old.volume new.volume (lines.Fail kind n) (answers.Reply replies.Done) (goes few) known.0 known.1 in
+    let cuts : new.volume.tx.machine.most_cuts ≤ old.volume.tx.machine.most_cuts + 1 = omega (arith, ap (λ (x : Machine). x.most_cuts) planned) in
+    let faults : new.volume.tx.machine.most_faults ≤ old.volume.tx.machine.most_faults + 1 = omega (arith, bound, known.1.most_faults) in
     record {
       known = (it.0, it.2);
       limits = room;
-      age = plan_age (age_of (running_in old)) (age_of (running_in new)) old.book.tx.machine.most_cuts old.book.tx.machine.most_faults new.book.tx.machine.most_cuts new.book.tx.machine.most_faults same cuts faults;
+      age = plan_age (age_of (running_in old)) (age_of (running_in new)) old.volume.tx.machine.most_cuts old.volume.tx.machine.most_faults new.volume.tx.machine.most_cuts new.volume.tx.machine.most_faults same cuts faults;
       device = omega (arith, device);
-      strikes = unstruck old.book.tx.machine new.book.tx.machine (answers.Reply replies.Done) refl refl (ap (λ (x : Machine). x.cuts) planned) (ap (λ (x : Machine). x.faults) planned);
+      strikes = unstruck old.volume.tx.machine new.volume.tx.machine (answers.Reply replies.Done) refl refl (ap (λ (x : Machine). x.cuts) planned) (ap (λ (x : Machine). x.faults) planned);
       whole = λ before low. tt;
-      each = λ s shows at whole low. event_of old.book new.book (lines.Fail kind n) (answers.Reply replies.Done) (goes few) s shows;
+      each = λ s shows at whole low. event_of old.volume new.volume (lines.Fail kind n) (answers.Reply replies.Done) (goes few) s shows;
       damaged = λ damage none. absurd none;
     }
 
@@ -265,7 +265,7 @@ armed_fail m new s armed planned least bound young =
       few_faults = omega (arith, bound, few);
     }
 
-pub bare_cut : (m new : Machine) (age age_now : ℕ) (rested now : Option Rested) (n how : ℕ) → Known (Bare m age rested) → new ≡ with_most_cuts m → age_now ≡ age → now ≡ rested → seat_age (Bare m age rested) < 2 ^ 63 - 2 ^ 40 → SeatGoes (Bare m age rested) (lines.Cut n how) (answers.Reply replies.Done) (Bare new age_now now)
+pub bare_cut : (m new : Machine) (age age_now : ℕ) (rested now : Option Rested) (n how : ℕ) → Known (Bare m age rested) → new ≡ with_most_cuts m → age_now ≡ age → now ≡ rested → point_age (Bare m age rested) < 2 ^ 63 - 2 ^ 40 → PointGoes (Bare m age rested) (lines.Cut n how) (answers.Reply replies.Done) (Bare new age_now now)
 bare_cut m new age age_now rested now n how known planned same stays young =
     let most = ap (λ (x : Machine). x.most_cuts) planned in
     let others = ap (λ (x : Machine). x.most_faults) planned in
@@ -281,13 +281,13 @@ bare_cut m new age age_now rested now n how known planned same stays young =
       whole = λ before below. subst whole_in (sym stays) before;
       each = λ s shows at whole below. (
         cut_armed s,
-        cut_at (seat_limits (Bare m age rested)) s s.now n how,
+        cut_at (point_limits (Bare m age rested)) s s.now n how,
         restored m new s (cut_armed s) shows.stores (ap (λ (x : Machine). x.stable) planned) (ap limits_in planned) refl shows.down (armed_cut m new s shows.stores.armed planned low),
       );
       damaged = λ damage is. (refl, stays);
     }
 
-pub bare_fail : (m new : Machine) (age age_now : ℕ) (rested now : Option Rested) (kind n : ℕ) → Known (Bare m age rested) → new ≡ with_most_faults m new.most_faults → m.faults ≤ new.most_faults → new.most_faults ≤ one_more m.faults → age_now ≡ age → now ≡ rested → seat_age (Bare m age rested) < 2 ^ 63 - 2 ^ 40 → SeatGoes (Bare m age rested) (lines.Fail kind n) (answers.Reply replies.Done) (Bare new age_now now)
+pub bare_fail : (m new : Machine) (age age_now : ℕ) (rested now : Option Rested) (kind n : ℕ) → Known (Bare m age rested) → new ≡ with_most_faults m new.most_faults → m.faults ≤ new.most_faults → new.most_faults ≤ one_more m.faults → age_now ≡ age → now ≡ rested → point_age (Bare m age rested) < 2 ^ 63 - 2 ^ 40 → PointGoes (Bare m age rested) (lines.Fail kind n) (answers.Reply replies.Done) (Bare new age_now now)
 bare_fail m new age age_now rested now kind n known planned least bound same stays young =
     let others = ap (λ (x : Machine). x.most_cuts) planned in
     let cuts = ap (λ (x : Machine). x.cuts) planned in
@@ -302,7 +302,7 @@ bare_fail m new age age_now rested now kind n known planned least bound same sta
       whole = λ before below. subst whole_in (sym stays) before;
       each = λ s shows at whole below. (
         fail_armed s,
-        fail_at (seat_limits (Bare m age rested)) s s.now kind n,
+        fail_at (point_limits (Bare m age rested)) s s.now kind n,
         restored m new s (fail_armed s) shows.stores (ap (λ (x : Machine). x.stable) planned) (ap limits_in planned) refl shows.down (armed_fail m new s shows.stores.armed planned least bound low),
       );
       damaged = λ damage is. (refl, stays);
@@ -330,7 +330,7 @@ room_of keys pages h =
     λ i. few i && none i
 
 -- a session on a new file system shows where a life begins
-pub begins : (m : Machine) (new : SessionState) → IsNew m → 3 ≤ m.room_keys → Mounts m new.book → new.book.tx.machine ≡ begun (record m { stable = new.book.tx.machine.stable }) 0 → ShowsState new.book newborn × (limits_of new.book ≡ limits_in m)
+pub begins : (m : Machine) (new : SessionState) → IsNew m → 3 ≤ m.room_keys → Mounts m new.volume → new.volume.tx.machine ≡ begun (record m { stable = new.volume.tx.machine.stable }) 0 → ShowsState new.volume newborn × (limits_of new.volume ≡ limits_in m)
 begins m new is room mounts machine =
     let keys = m.room_keys in
     let pages = m.room_pages in
@@ -346,7 +346,7 @@ begins m new is room mounts machine =
     } in
     let S : Objects → Type 0 = λ o. IsSaved (limits_in m) o root_alone 0 in
     let got = mounts.each first_past 0 (subst S (sym is.stable) saved) in
-    let Q : Tree → Type 0 = λ t. ShowsLive new.book (live_of t) in
+    let Q : Tree → Type 0 = λ t. ShowsLive new.volume (live_of t) in
     let live = subst Q (named_whole root_alone root_whole) got.1 in
     let cuts = ap (λ (x : Machine). x.cuts) machine in
     let faults = ap (λ (x : Machine). x.faults) machine in
@@ -361,5 +361,5 @@ begins m new is room mounts machine =
         few_cuts = omega (arith, most_cuts, is.cuts, is.few_cuts);
         few_faults = omega (arith, most_faults, is.faults, is.few_faults);
       },
-      limits_now new.book (Up (live_of root_alone)) live ∙ ap limits_in machine,
+      limits_now new.volume (Up (live_of root_alone)) live ∙ ap limits_in machine,
     )
