@@ -37,15 +37,15 @@ read_inode_of (File bytes) h = read_inode_file (length bytes) (let le = h bytes 
 
 -- ---- the inodes of nodes
 
-abbrev inodes : List (ℕ × Node) → List (List ℕ × List ℕ)
+abbrev pub inodes : List (ℕ × Node) → List (List ℕ × List ℕ)
 inodes [] = []
 inodes (e ∷ es) = (inode_key e.0, inode_of e.1) ∷ inodes es
 
-abbrev AllLow : List (ℕ × Node) → Type 0
+abbrev pub AllLow : List (ℕ × Node) → Type 0
 AllLow [] = Unit {0}
 AllLow (e ∷ es) = (e.0 < 2 ^ 64) × AllLow es
 
-inode_found : (es : List (ℕ × Node)) (q v : List ℕ) → AllLow es → find bytes_cmp q (inodes es) ≡ Some v → (n : ℕ) × (q ≡ inode_key n) × (n < 2 ^ 64)
+pub inode_found : (es : List (ℕ × Node)) (q v : List ℕ) → AllLow es → find bytes_cmp q (inodes es) ≡ Some v → (n : ℕ) × (q ≡ inode_key n) × (n < 2 ^ 64)
 inode_found [] q v low e = absurd (cc)
 inode_found (x ∷ es) q v low e = by (bytes_cmp q (inode_key x.0)) refl (inode_found es q v low.1) e
   where
@@ -54,7 +54,7 @@ inode_found (x ∷ es) q v low e = by (bytes_cmp q (inode_key x.0)) refl (inode_
     by Greater r rest e = rest e
     by Equal r rest e = (x.0, same_bytes q (inode_key x.0) r, low.0)
 
-inode_find : (es : List (ℕ × Node)) (n : ℕ) → n < 2 ^ 64 → AllLow es → find bytes_cmp (inode_key n) (inodes es) ≡ option_map inode_of (find nat_cmp n es)
+pub inode_find : (es : List (ℕ × Node)) (n : ℕ) → n < 2 ^ 64 → AllLow es → find bytes_cmp (inode_key n) (inodes es) ≡ option_map inode_of (find nat_cmp n es)
 inode_find [] n lt low = refl
 inode_find (x ∷ es) n lt low = elim (decide_number n x.0) [
   | inl same ↦
@@ -71,7 +71,7 @@ no_length [] e = refl
 no_length (x ∷ es) e = absurd (omega arith)
 
 -- the order doesn't matter for a sum
-sum_entries : (f : List ℕ × List ℕ → ℕ) (es : List (ℕ × Node)) → T (is_sorted nat_cmp es) → AllLow es → sum_by f (objects.entries (objects.from_entries {R = bytes_cmp} (inodes es))) ≡ sum_by f (inodes es)
+pub sum_entries : (f : List ℕ × List ℕ → ℕ) (es : List (ℕ × Node)) → T (is_sorted nat_cmp es) → AllLow es → sum_by f (objects.entries (objects.from_entries {R = bytes_cmp} (inodes es))) ≡ sum_by f (inodes es)
 sum_entries f [] h low = ap (sum_by f) nothing
   where
     nothing : objects.entries (objects.empty {X = List ℕ} {R = bytes_cmp}) ≡ []

@@ -5,6 +5,7 @@ use Rattle.std.specs.Cmp.{IsTotalOrder}
 use Rattle.std.specs.FinMap.{IsAntisymmetric, find, is_sorted}
 use Rattle.kfs_shows.proofs.Lookups.{tie_test, apart_test}
 use Rattle.kfs_shows.proofs.Sweeping.{missing}
+pub use Rattle.kfs_model.proofs.Tests.{first_of, second_of}
 
 pub left : (a b : Bool) → (a && b) ≡ true → a ≡ true
 left true b e = refl
@@ -13,14 +14,6 @@ left false b e = e
 pub right : (a b : Bool) → (a && b) ≡ true → b ≡ true
 right true b e = e
 right false b e = absurd (cc)
-
-pub first_of : (a b : Bool) → T (a && b) → T a
-first_of true b h = tt
-first_of false b h = absurd h
-
-pub second_of : (a b : Bool) → T (a && b) → T b
-second_of true b h = h
-second_of false b h = absurd h
 
 module _ {K X : Type 0} {R : K → K → Ordering} (total : IsTotalOrder R) (same : IsAntisymmetric R) where
   pub found_first : (x : K × X) (es : List (K × X)) → find R x.0 (x ∷ es) ≡ Some x.1

@@ -11,7 +11,7 @@ use Rattle.kfs_shows.proofs.KeysApart.{same_chunk}
 use Rattle.kfs_tx.specs.Tx.{Tx, seen, put_in}
 use Rattle.kfs_tx.proofs.Seeing.{ready_put, seen_put}
 use Rattle.kfs_file.specs.Contents.{HoldsFile, WritesFile, piece_in, rewritten, with_piece}
-use Rattle.kfs_file.proofs.Written.{nat_split, length_written, written_before, written_within, written_after, written_more}
+use Rattle.kfs_model.proofs.Written.{nat_split, length_written, written_before, written_within, written_after, written_more}
 
 -- where the piece ends
 ends : (o : Option (List ℕ)) (b : List ℕ) (c : ℕ) → IsPiece o b c → (length (unwrap_or o []) ≡ 0) ⊎ (4096 * c + length (unwrap_or o []) ≤ length b)

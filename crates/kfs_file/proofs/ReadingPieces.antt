@@ -9,7 +9,7 @@ use Rattle.kfs_objects.specs.Keys.{chunk_key}
 use Rattle.kfs_model.specs.Tree.{padded}
 use Rattle.kfs_shows.specs.Shows.{IsPiece}
 use Rattle.kfs_file.specs.Contents.{ReadsFile, piece_at, piece_in}
-use Rattle.kfs_file.proofs.Written.{length_padded, padded_at}
+use Rattle.kfs_model.proofs.Written.{length_padded, padded_at}
 use Rattle.kfs_file.proofs.Pieces.{take_both}
 
 length_piece : (piece : List ℕ) (start count : ℕ) → length (piece_at piece start count) ≡ count

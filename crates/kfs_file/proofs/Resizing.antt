@@ -12,7 +12,7 @@ use Rattle.kfs_shows.proofs.KeysApart.{same_chunk}
 use Rattle.kfs_tx.specs.Tx.{Tx, IsReady, changed_keys, seen, put_in}
 use Rattle.kfs_tx.proofs.Seeing.{ready_put, seen_put, keys_put}
 use Rattle.kfs_file.specs.Contents.{ResizesFile, CutsFile, RemovesChunks, piece_in, with_cut}
-use Rattle.kfs_file.proofs.Written.{nat_split, length_padded, padded_at}
+use Rattle.kfs_model.proofs.Written.{nat_split, length_padded, padded_at}
 use Rattle.kfs_file.proofs.Pieces.{short_piece, within_longer}
 
 pub length_resized : (b : List ℕ) (n : ℕ) → length (resized b n) ≡ n

@@ -1,5 +1,6 @@
 -- Which names are bad, by the rows and the tables.
 use Rattle.std.proofs.Common.{◌≡◌, ◌≢◌, ℕ, ◌<◌, ◌^◌, inl, inr, ◌&&◌, ◌||◌, not, true, false, cond, Bool, refl, sym, ◌∙◌, ap, subst, arith, List, slice_get, Option, Some, None, IsSome, is_some, is_none, unwrap_or}
+use Rattle.std.proofs.lemmas.Bool.{and_parts}
 use Rattle.std.specs.Prelude.{◌==◌}
 use Rattle.std.specs.Ordering.{nat_cmp}
 use Rattle.std.specs.BTreeMap.{get}
@@ -44,10 +45,6 @@ not_false b e = ap not e
 never_true : (b : Bool) → (b ≡ true → ⊥) → b ≡ false
 never_true true h = absurd (h refl)
 never_true false h = refl
-
-both_true : (a b : Bool) → (a && b) ≡ true → (a ≡ true) × (b ≡ true)
-both_true true b e = (refl, e)
-both_true false b e = absurd (cc)
 
 some_none : {A : Type 0} (o : Option A) → is_none o ≡ true → o ≡ None
 some_none None e = refl
@@ -170,8 +167,8 @@ module _ (m : Objects) (rs : List Row) (are : AreRows (objects.entries m) rs) (t
       by : (c : Bool) → is_lost t node ≡ c → cond c (Some node) None ≡ Some n → IsBadEntry m n
       by true is e =
           let o = inode_at_row m rs are t tables i node it at in
-          let a = both_true (not (node == 1) && not (contains nat_cmp t.named node)) (not (contains nat_cmp t.orphans node)) is in
-          let b = both_true (not (node == 1)) (not (contains nat_cmp t.named node)) a.0 in
+          let a = and_parts (not (node == 1) && not (contains nat_cmp t.named node)) (not (contains nat_cmp t.orphans node)) is in
+          let b = and_parts (not (node == 1)) (not (contains nat_cmp t.named node)) a.0 in
           subst (IsBadEntry m) (same_Some node n e)
           (lost (subst IsSome (sym o.2) refl) (differs node 1 (not_true _ b.0)) (λ h. let y = named_all m rs are t tables node h in let bad : true ≡ false = sym y ∙ not_true _ b.1 in absurd (cc))
           (not_there (objects.get m (orphan_key node)) (sym (known_orphan m rs are t tables node o.1) ∙ not_true _ a.1)))

@@ -114,10 +114,6 @@ front_wanted b (x ∷ xs) low = by (x == b) refl
         rest [] = refl
         rest (y ∷ ys) = refl
 
-    no_more : (t : Bool) → (t && true) ≡ t
-    no_more true = refl
-    no_more false = refl
-
     never : (t : Bool) → (t && false) ≡ false
     never true = refl
     never false = refl

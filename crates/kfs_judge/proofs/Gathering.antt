@@ -18,9 +18,6 @@ same_length [] (r ∷ rs) h = absurd h
 same_length (e ∷ es) [] h = absurd h
 same_length (e ∷ es) (r ∷ rs) h = ap suc (same_length es rs h.1)
 
-pub extends_none : (rows : List Row) → Extends [] rows rows
-extends_none rows before h = subst (λ es. AreRows es rows) (sym (append-nil before)) h
-
 pub extends_both : (es fs : List (List ℕ × List ℕ)) (old mid new : List Row) → Extends es old mid → Extends fs mid new → Extends (es ++ fs) old new
 extends_both es fs old mid new a b before h = subst (λ l. AreRows l new) (append_assoc before es fs) (b (before ++ es) (a before h))
 
@@ -35,6 +32,3 @@ extends_one pairs i d old mid new row lt h is grown before start =
     let both = rows_more (before ++ map pair_of (take i pairs)) (pair_of (get_or pairs i d) ∷ []) mid (row ∷ []) (h before start) (is, tt) in
     let there = subst (λ l. AreRows l (mid ++ row ∷ [])) (append_assoc before (map pair_of (take i pairs)) (pair_of (get_or pairs i d) ∷ [])) both in
     subst (λ l. AreRows (before ++ l) new) (sym more) (subst (λ r. AreRows (before ++ (map pair_of (take i pairs) ++ pair_of (get_or pairs i d) ∷ [])) r) (sym grown) there)
-
-pub extends_all : (pairs : List Pair) (i : ℕ) (old new : List Row) → length pairs ≤ i → Extends (map pair_of (take i pairs)) old new → Extends (map pair_of pairs) old new
-extends_all pairs i old new le h = subst (λ l. Extends (map pair_of l) old new) (take_all i pairs le) h

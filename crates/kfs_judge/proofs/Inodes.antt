@@ -148,9 +148,6 @@ module _ (m : Objects) (rs : List Row) (are : AreRows (objects.entries m) rs) (t
       by (Some v) is e = (v, is)
   complete k low (root is other) = inr (is, other)
 
-  pub sound_inode : (i : ℕ) (row : Row) (n : ℕ) → slice_get rs i ≡ Some row → bad_inode (next_in m) row ≡ Some n → IsBadInode m n
-  sound_inode = sound
-
   -- the least bad inode, the root's among them
   pub least_of_inodes : (least : Option ℕ) → IsLeastOf (bad_inode (next_in m)) rs least → FoundLeast (IsBadInode m) (cond (is_dir (inode_at t 1)) least (lower least (Some 1)))
   least_of_inodes least is = by (is_dir (inode_at t 1)) refl
@@ -211,7 +208,3 @@ all_short next rs is i node it at = by (is_bad_inode next node (Some it)) refl
         long' : (c : Bool) → nat_lt greatest_length it.length ≡ c → it.length ≤ greatest_length
         long' false f = grind (arith, nat_tests)
         long' true f = let bad : true ≡ false = sym (right_true (nat_le next node || node == 0) (nat_lt greatest_length it.length) f) ∙ e in absurd (cc)
-
-pub lower_some : (o : Option ℕ) → lower o (Some 1) ≡ None → ⊥
-lower_some None e = absurd (cc)
-lower_some (Some n) e = absurd (cc)

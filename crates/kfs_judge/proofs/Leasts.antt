@@ -22,9 +22,6 @@ get_split (z ∷ xs) y zero x e = inl e
 get_split (z ∷ xs) y (suc i) x e = get_split xs y i x e
 
 module _ (f : Row → Option ℕ) where
-  pub least_none : IsLeastOf f [] None
-  least_none = record { found = λ n e. absurd (cc); all = λ i k row at e. absurd (cc) }
-
   found_left : (xs : List Row) (row : Row) (n : ℕ) → (i : ℕ) × (r : Row) × (slice_get xs i ≡ Some r) × (f r ≡ Some n) → (i : ℕ) × (r : Row) × (slice_get (xs ++ row ∷ []) i ≡ Some r) × (f r ≡ Some n)
   found_left xs row n h = (h.0, h.1, get_left xs (row ∷ []) h.0 h.1 h.2, h.3)
 

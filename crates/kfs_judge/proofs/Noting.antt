@@ -53,6 +53,3 @@ tables_push xs row old new h n = record {
 -- one more row of a list
 pub tables_more : (rows : List Row) (i : ℕ) (d : Row) (old new : Tables) → i < length rows → AreTables (take i rows) old → Notes old (get_or rows i d) new → AreTables (take (i + 1) rows) new
 tables_more rows i d old new lt h n = subst (λ l. AreTables l new) (sym (take_more rows i d lt)) (tables_push (take i rows) (get_or rows i d) old new h n)
-
-pub tables_all : (rows : List Row) (i : ℕ) (t : Tables) → length rows ≤ i → AreTables (take i rows) t → AreTables rows t
-tables_all rows i t le h = subst (λ l. AreTables l t) (take_all i rows le) h

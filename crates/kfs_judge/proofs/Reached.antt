@@ -98,9 +98,6 @@ pub settles_more : (old mid new : BTreeSet ℕ) (all : List Edge) (i : ℕ) (d :
     → Settles old (take (i + 1) all) left' new
 settles_more old mid new all i d left left' lt few h one = let some = length-take-le i all (omega arith) in subst (λ l. Settles old l left' new) (sym (take_more all i d lt)) (settles_push old mid new (take i all) left left' (get_or all i d) (omega arith) h one)
 
-pub settles_all : (old new : BTreeSet ℕ) (all : List Edge) (i : ℕ) (left : List Edge) → length all ≤ i → Settles old (take i all) left new → Settles old all left new
-settles_all old new all i left le h = subst (λ l. Settles old l left new) (take_all i all le) h
-
 pub one_more_left : (old new : BTreeSet ℕ) (e : Edge) (left left' : List Edge) → SettlesOne old left e left' new → length left' ≤ length left + 1
 one_more_left old new e left left' (inl s) = let a = ap (λ (l : List Edge). length l) s.2 in omega arith
 one_more_left old new e left left' (inr s) = let a = ap (λ (l : List Edge). length l) s.2 in let b = length-append left (e ∷ []) in omega arith

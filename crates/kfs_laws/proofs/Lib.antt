@@ -9,5 +9,13 @@ pub mod Moves
 pub mod Outcomes
 pub mod Quiet
 pub mod Renamed
+pub mod RootAlone
 pub mod Sound
 pub mod Unnaming
+pub mod Calls
+pub mod Open
+pub mod Reaching
+pub mod Room
+pub mod Start
+pub mod Walking
+pub mod Plans

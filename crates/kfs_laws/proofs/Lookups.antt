@@ -18,7 +18,7 @@ pub none_some : {A : Type 0} (o : Option A) (x : A) → o ≡ None → o ≢ Som
 none_some o x n s = absurd (cc)
 
 module _ {K : Type 0} {R : K → K → Ordering} (o : IsTotalOrder R) (same : IsAntisymmetric R) where
-  decide : (q k : K) → (q ≡ k) ⊎ (eq_by_cmp R q k ≡ false)
+  pub decide : (q k : K) → (q ≡ k) ⊎ (eq_by_cmp R q k ≡ false)
   decide q k = by (R q k) refl
     where
       by : (r : Ordering) → R q k ≡ r → (q ≡ k) ⊎ (is_eq r ≡ false)
@@ -26,10 +26,10 @@ module _ {K : Type 0} {R : K → K → Ordering} (o : IsTotalOrder R) (same : Is
       by Equal e = inl (same q k e)
       by Greater e = inr refl
 
-  apart_test : (q k : K) → q ≢ k → eq_by_cmp R q k ≡ false
+  pub apart_test : (q k : K) → q ≢ k → eq_by_cmp R q k ≡ false
   apart_test q k d = elim (decide q k) [ inl e ↦ absurd (d e) | inr f ↦ f ]
 
-  tie_test : (k : K) → eq_by_cmp R k k ≡ true
+  pub tie_test : (k : K) → eq_by_cmp R k k ≡ true
   tie_test k = ap is_eq (tied_itself o k)
 
   module _ {X : Type 0} where

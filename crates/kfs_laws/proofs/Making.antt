@@ -31,22 +31,22 @@ module _ (t : Tree) (tree : IsTree t) (place : Place) (name : Name) (p : ℕ) (s
   number_old q d = place_other q new t.next t.names d
 
   -- what is named was named before, or is new
-  named_before : (q : Place) (n : ℕ) → number_at after q ≡ Some n → ((q ≡ new) × (n ≡ t.next)) ⊎ ((q ≢ new) × (number_at t q ≡ Some n))
+  pub named_before : (q : Place) (n : ℕ) → number_at after q ≡ Some n → ((q ≡ new) × (n ≡ t.next)) ⊎ ((q ≢ new) × (number_at t q ≡ Some n))
   named_before q n e = elim (decide_place q new) [
     | inl same ↦ inl (same, same_Some n t.next (sym e ∙ ap (number_at after) same ∙ number_new))
     | inr other ↦ inr (other, sym (number_old q other) ∙ e)
   ]
 
-  node_new : node_of after t.next ≡ Some node
+  pub node_new : node_of after t.next ≡ Some node
   node_new = number_put t.next node t.nodes
 
-  node_old : (n : ℕ) → n ≢ t.next → node_of after n ≡ node_of t n
+  pub node_old : (n : ℕ) → n ≢ t.next → node_of after n ≡ node_of t n
   node_old n d = number_other n t.next node t.nodes d
 
-  below : (n : ℕ) (x : Node) → node_of t n ≡ Some x → n ≢ t.next
+  pub below : (n : ℕ) (x : Node) → node_of t n ≡ Some x → n ≢ t.next
   below n x e same = let h = (tree.numbers n x e).1 in absurd (omega arith)
 
-  named_below : (q : Place) (n : ℕ) → number_at t q ≡ Some n → n < t.next
+  pub named_below : (q : Place) (n : ℕ) → number_at t q ≡ Some n → n < t.next
   named_below q n e = let x = tree.there q n e in (tree.numbers n x.0 x.1).1
 
   node_kept : (n : ℕ) (x : Node) → node_of t n ≡ Some x → node_of after n ≡ Some x
@@ -97,10 +97,10 @@ module _ (t : Tree) (tree : IsTree t) (n : ℕ) (was bytes : List ℕ) (file : n
   abbrev now : Tree
   now = with_node t n (File bytes)
 
-  node_here : node_of now n ≡ Some (File bytes)
+  pub node_here : node_of now n ≡ Some (File bytes)
   node_here = number_put n (File bytes) t.nodes
 
-  node_other : (k : ℕ) → k ≢ n → node_of now k ≡ node_of t k
+  pub node_other : (k : ℕ) → k ≢ n → node_of now k ≡ node_of t k
   node_other k d = number_other k n (File bytes) t.nodes d
 
   dir_kept : (k : ℕ) → node_of t k ≡ Some Dir → node_of now k ≡ Some Dir

@@ -1,2 +1,4 @@
 pub mod Laws
 pub mod Worlds
+pub mod WholeCalls
+pub mod Plain

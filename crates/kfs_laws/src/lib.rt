@@ -2,6 +2,8 @@
 #![tactic(auto)]
 
 ghost use Rattle.kfs_laws.specs.Laws.{ErrorsChangeNothing, NextRisesByOneAtMost, LookingLeavesTheTree, NoChangeLeavesTheTree, NamedIsATree, SweptIsATree, NewContentIsATree, NewNodeIsATree, UnnamingIsATree, RenameIsATree, NewNodeIsCharged, NewContentIsCharged, WhatGoesIsChargedNoMore, FitsIsTheMost, EachCallKeepsTheDesk};
+ghost use Rattle.kfs_laws.specs.Plain.{NothingFailsUnplanned};
+ghost use Rattle.kfs_laws.specs.WholeCalls.{EachCallLeavesATreeWithItsOpenFiles, RootAloneTakesThreeKeys, EachCallKeepsTheRoom};
 
 /// An error changes nothing, and a reply that is an error says so.
 pub fn errors_change_nothing()
@@ -76,4 +78,21 @@ pub fn fits_is_the_most()
 /// A desk with nothing open is a desk, and each call leaves one.
 pub fn each_call_keeps_the_desk()
     ensures { EachCallKeepsTheDesk }
+{}
+
+/// A root alone with nothing open is a tree with its open files, and each call leaves one, whatever it answers.
+pub fn each_call_leaves_a_tree_with_its_open_files()
+    ensures { EachCallLeavesATreeWithItsOpenFiles }
+{}
+
+/// A root alone has room exactly where there are three keys or more, and each call keeps the room, whatever it answers.
+pub fn each_call_keeps_the_room()
+    ensures root { RootAloneTakesThreeKeys }
+    ensures calls { EachCallKeepsTheRoom }
+{}
+
+/// Where no cut and no fault is planned, and no line plans one, each call answers as it should, and each mount with
+/// what is kept, or memory is wanting.
+pub fn nothing_fails_unplanned()
+    ensures { NothingFailsUnplanned }
 {}

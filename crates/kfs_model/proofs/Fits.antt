@@ -13,6 +13,7 @@ use Rattle.kfs_model.specs.declared.Node.{Node}
 use Rattle.kfs_model.specs.declared.Node.TheVariants.{File}
 use Rattle.kfs_model.specs.Tree.{Tree, Limits, charge, chunks, chunks_of, with_node, written, fits_at, fits}
 use Rattle.kfs_model.proofs.Written.{length_written}
+use Rattle.kfs_model.proofs.Tests.{lower, first_of, second_of}
 
 -- the greatest that passes
 pub fits_is : (k : Limits) (t : Tree) (n : ℕ) (b : List ℕ) (p m j : ℕ) → j ≤ m → (j ≡ 0) ⊎ (fits_at k t n b p j ≡ true) → ((i : ℕ) → j < i → i ≤ m → fits_at k t n b p i ≡ false) → fits k t n b p m ≡ j
@@ -34,19 +35,6 @@ fits_is k t n b p (suc m) j le at above = by (fits_at k t n b p (suc m)) refl (�
         | inr passes ↦ absurd (let bad : true ≡ false = sym passes ∙ ap (fits_at k t n b p) same ∙ e in cc)
       ]
     ]
-
-lower : (o : Ordering) → T (is_lt o) → o ≡ Less
-lower Less h = refl
-lower Equal h = absurd h
-lower Greater h = absurd h
-
-first_of : (a b : Bool) → T (a && b) → T a
-first_of true b h = tt
-first_of false b h = absurd h
-
-second_of : (a b : Bool) → T (a && b) → T b
-second_of true b h = h
-second_of false b h = absurd h
 
 missing : (n y : ℕ) (es : List (ℕ × Node)) → nat_cmp n y ≡ Less → T (below_all nat_cmp y es) → find nat_cmp n es ≡ None
 missing n y [] lt h = refl

@@ -1,3 +1,4 @@
 pub mod Renaming
 pub mod Written
+pub mod Tests
 pub mod Fits

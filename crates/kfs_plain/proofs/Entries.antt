@@ -13,6 +13,7 @@ use Rattle.std.specs.FinMap.{find, put, is_sorted, nat_cmp-IsAntisymmetric}
 use Rattle.std.specs.FinMap.Entries.{by_order, below_all, find-put, find-where_key}
 use Rattle.std.proofs.lemmas.List.Sums.{sum_by-cons}
 use Rattle.std.proofs.lemmas.Bool.Decides.{nat_tests}
+use Rattle.kfs_model.proofs.Tests.{both}
 
 pub insert_entry_is_put : {K X : Type 0} (R : K → K → Ordering) (es : List (K × X)) (k : K) (v : X) → insert_entry R es k v ≡ put R k v es
 insert_entry_is_put R [] k v = refl
@@ -60,10 +61,6 @@ remove_entry-put_new k v (e ∷ es) none =
       | Equal ↦ λ is. absurd (let bad : Some e.1 ≡ None = ap (λ r. cond (is_eq r) (Some e.1) (find nat_cmp k es)) (sym is) ∙ none in cc)
       | Greater ↦ λ is. ap (λ r. cond (is_eq r) (put nat_cmp k v es) (e ∷ remove_entry (is_at (nat_cmp k)) (put nat_cmp k v es))) is ∙ ap (λ rest. e ∷ rest) rest
     ] refl
-
-both : (a b : Bool) → T a → T b → T (a && b)
-both true b p q = q
-both false b p q = p
 
 below_test : {X : Type 0} (x : ℕ) (es : List (ℕ × X)) → AllByRecursion (λ y. nat_cmp x y ≡ Less) (keys_of es) → T (below_all nat_cmp x es)
 below_test x [] h = tt

@@ -1,11 +1,7 @@
 -- A file's new objects show the tree with its new content.
 use Rattle.std.proofs.Common.{◌≡◌, ◌≢◌, ℕ, ◌<◌, ◌≤◌, ◌^◌, inl, inr, sym, ◌∙◌, ap, subst, arith, List, length, Some, None}
 use Rattle.std.specs.Option.{option_map}
-use Rattle.std.specs.Ordering.{nat_cmp}
-use Rattle.std.specs.Cmp.{nat_cmp_total}
 use Rattle.std.specs.FinMap as objects
-use Rattle.std.specs.FinMap.Entries.{is_sorted-put}
-use Rattle.std.proofs.lemmas.Option.{same_Some}
 use Rattle.kv_device.specs.Objects.{Objects}
 use Rattle.kfs_objects.specs.Keys.{inode_key, entry_key, chunk_key, orphan_key, IsObjectKey, is_inode, is_chunk}
 use Rattle.kfs_model.specs.declared.Node.{Node}
@@ -13,7 +9,8 @@ use Rattle.kfs_model.specs.declared.Node.TheVariants.{Dir, File}
 use Rattle.kfs_model.specs.Tree.{Tree, with_node, greatest_length, IsTree, node_of}
 use Rattle.kfs_shows.specs.Shows.{ShowsTree, ShowsChunk, IsPiece, inode_of}
 use Rattle.kfs_shows.specs.Laws.{PutsContent}
-use Rattle.kfs_shows.proofs.Lookups.{number_put, number_other, decide_number, decide_bytes}
+use Rattle.kfs_laws.proofs.Making as laws
+use Rattle.kfs_shows.proofs.Lookups.{decide_number, decide_bytes}
 use Rattle.kfs_shows.proofs.KeysApart.{kinds, same_inode, same_chunk}
 use Rattle.kfs_shows.proofs.ChunkKeys.{chunk_of}
 
@@ -22,40 +19,16 @@ module _ (t : Tree) (tree : IsTree t) (n : ℕ) (was bytes : List ℕ) (file : n
   now = with_node t n (File bytes)
 
   node_here : node_of now n ≡ Some (File bytes)
-  node_here = number_put n (File bytes) t.nodes
+  node_here = laws.node_here t tree n was bytes file
 
   node_old : (k : ℕ) → k ≢ n → node_of now k ≡ node_of t k
-  node_old k d = number_other k n (File bytes) t.nodes d
+  node_old = laws.node_other t tree n was bytes file
 
-  dir_kept : (k : ℕ) → node_of t k ≡ Some Dir → node_of now k ≡ Some Dir
-  dir_kept k dir = node_old k (λ e. let bad : Some Dir ≡ Some (File was) = sym dir ∙ ap (node_of t) e ∙ file in absurd (cc)) ∙ dir
-
-  -- a node was there before
   pub node_before : (k : ℕ) (x : Node) → node_of now k ≡ Some x → (y : Node) × (node_of t k ≡ Some y)
-  node_before k x e = elim (decide_number k n) [
-    | inl is ↦ (File was, ap (node_of t) is ∙ file)
-    | inr other ↦ (x, sym (node_old k other) ∙ e)
-  ]
+  node_before = laws.node_before t tree n was bytes file
 
   pub still_tree : length bytes ≤ greatest_length → IsTree now
-  still_tree short = record {
-    root = tree.root;
-    root_dir = dir_kept 1 tree.root_dir;
-    parents = λ q x k e. let m = tree.parents q x k e in (m.0, m.1, dir_kept m.0 m.2);
-    names = tree.names;
-    apart = tree.apart;
-    there = λ q k e. elim (decide_number k n) [
-      | inl is ↦ (File bytes, ap (node_of now) is ∙ node_here)
-      | inr other ↦ let x = tree.there q k e in (x.0, node_old k other ∙ x.1)
-    ];
-    numbers = λ k x e. let y = node_before k x e in tree.numbers k y.0 y.1;
-    lengths = λ k b e. elim (decide_number k n) [
-      | inl is ↦ let same : File bytes ≡ File b = same_Some _ _ (sym (ap (node_of now) is ∙ node_here) ∙ e) in let f : bytes ≡ b = cc in subst (λ l. length l ≤ greatest_length) f short
-      | inr other ↦ tree.lengths k b (sym (node_old k other) ∙ e)
-    ];
-    sorted_names = tree.sorted_names;
-    sorted_nodes = is_sorted-put nat_cmp nat_cmp_total n (File bytes) t.nodes tree.sorted_nodes;
-  }
+  still_tree = laws.content_tree t tree n was bytes file
 
   module _ (m after : Objects) (shows : ShowsTree m t) (low : n < 2 ^ 64) (puts : PutsContent m after n bytes) where
     entry_same : (p : ℕ) (x : List ℕ) → objects.get after (entry_key p x) ≡ objects.get m (entry_key p x)

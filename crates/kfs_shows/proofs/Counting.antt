@@ -23,23 +23,11 @@ use Rattle.kfs_objects.proofs.KeyLaws.{length_be64}
 use Rattle.kfs_model.specs.declared.Node.{Node}
 use Rattle.kfs_model.specs.declared.Node.TheVariants.{Dir, File}
 use Rattle.kfs_model.specs.Tree.{Place, Name, Tree, parent, place_cmp, chunks_of, chunks, charge, IsTree, number_at, node_of}
+use Rattle.kfs_model.proofs.Tests.{first_of, second_of, lt_apart}
 use Rattle.kfs_shows.specs.Shows.{Shows, ShowsTree, ShowsChunk, inode_of}
 use Rattle.kfs_shows.proofs.Lookups.{decide_number, decide_place, tie_test, apart_test, same_bytes, same_places, places_total}
 
 -- ---- lists in the order of their keys have distinct keys
-
-first_of : (a b : Bool) → T (a && b) → T a
-first_of true b h = tt
-first_of false b h = absurd h
-
-second_of : (a b : Bool) → T (a && b) → T b
-second_of true b h = h
-second_of false b h = absurd h
-
-lt_apart : (r : Ordering) → T (is_lt r) → is_eq r ≡ false
-lt_apart Less h = refl
-lt_apart Equal h = absurd h
-lt_apart Greater h = absurd h
 
 module _ {X : Type 0} (p : List ℕ × X → Bool) where
   abbrev pub kept : List (List ℕ × X) → List (List ℕ)

@@ -1,18 +1,16 @@
 -- The objects of a new file system show a root alone.
-use Rattle.std.proofs.Common.{◌≡◌, ◌≢◌, ℕ, ◌+◌, inl, inr, cond, refl, sym, ◌∙◌, ap, subst, arith, List, [], ◌∷◌, ◌++◌, length, Some, None}
+use Rattle.std.proofs.Common.{◌≡◌, ◌≢◌, ℕ, inl, inr, refl, sym, ◌∙◌, ap, subst, arith, List, [], Some, None}
 use Rattle.std.specs.Option.{option_map}
-use Rattle.std.specs.Cmp.{nat_cmp_total}
 use Rattle.std.specs.FinMap as objects
-use Rattle.std.proofs.lemmas.List.{length_push}
-use Rattle.std.proofs.lemmas.Option.{same_Some}
 use Rattle.kv_device.specs.Bytes.{bytes_cmp}
 use Rattle.kv_device.specs.Objects.{Objects}
 use Rattle.kfs_objects.specs.Keys.{super_key, inode_key, entry_key, chunk_key, orphan_key, IsObjectKey, is_inode, is_super}
 use Rattle.kfs_objects.specs.Records.{entry_value, super_value, inode_value}
-use Rattle.kfs_model.specs.declared.Node.TheVariants.{Dir, File}
-use Rattle.kfs_model.specs.Tree.{Place, Name, Tree, root_alone, IsTree, number_at, node_of}
+use Rattle.kfs_model.specs.Tree.{Tree, root_alone, node_of}
+pub use Rattle.kfs_laws.proofs.RootAlone.{not_root, root_is_tree}
+use Rattle.kfs_laws.proofs.RootAlone.{root_below, root_others}
 use Rattle.kfs_shows.specs.Shows.{Shows, ShowsTree, ShowsChunk, inode_of}
-use Rattle.kfs_shows.proofs.Lookups.{key_put, key_other, decide_place, decide_number, decide_bytes, places_total, same_places, apart_test}
+use Rattle.kfs_shows.proofs.Lookups.{key_put, key_other, decide_number, decide_bytes}
 use Rattle.kfs_shows.proofs.KeysApart.{kinds, same_inode}
 
 -- the super is no part of the tree
@@ -35,41 +33,6 @@ super_kept m t value shows =
 
 pub with_super : (m : Objects) (t : Tree) (k : ℕ) → ShowsTree m t → Shows (objects.insert m super_key (super_value k t.next)) t k
 with_super m t k shows = record { tree = super_kept m t (super_value k t.next) shows; head = key_put m super_key (super_value k t.next) }
-
-root_named : (q : Place) (n : ℕ) → number_at root_alone q ≡ Some n → (q ≡ []) × (n ≡ 1)
-root_named q n e = elim (decide_place q []) [
-  | inl is ↦ (is, same_Some n 1 (sym e ∙ ap (number_at root_alone) is))
-  | inr d ↦ absurd (let t : None ≡ Some n = sym (ap (λ b. cond b (Some 1) None) (apart_test places_total same_places q [] d)) ∙ e in cc)
-]
-
-pub not_root : (q : Place) (x : Name) → q ++ x ∷ [] ≢ []
-not_root q x e = let h : length q + 1 ≡ 0 = sym (length_push q x) ∙ ap length e in absurd (omega arith)
-
-root_below : (q : Place) (x : Name) → number_at root_alone (q ++ x ∷ []) ≡ None
-root_below q x = ap (λ b. cond b (Some 1) None) (apart_test places_total same_places (q ++ x ∷ []) [] (not_root q x))
-
-root_others : (n : ℕ) → n ≢ 1 → node_of root_alone n ≡ None
-root_others n d = ap (λ b. cond b (Some Dir) None) (apart_test nat_cmp_total objects.nat_cmp-IsAntisymmetric n 1 d)
-
-pub root_is_tree : IsTree root_alone
-root_is_tree = record {
-  root = refl;
-  root_dir = refl;
-  parents = λ q x n e. absurd (not_root q x (root_named (q ++ x ∷ []) n e).0);
-  names = λ q x n e. absurd (not_root q x (root_named (q ++ x ∷ []) n e).0);
-  apart = λ q r n e f. (root_named q n e).0 ∙ sym (root_named r n f).0;
-  there = λ q n e. (Dir, ap (node_of root_alone) (root_named q n e).1);
-  numbers = λ n x e. elim (decide_number n 1) [
-    | inl is ↦ (omega arith, omega arith)
-    | inr d ↦ absurd (let t : None ≡ Some x = sym (root_others n d) ∙ e in cc)
-  ];
-  lengths = λ n bytes e. elim (decide_number n 1) [
-    | inl is ↦ absurd (let t : Some Dir ≡ Some (File bytes) = sym (ap (node_of root_alone) is) ∙ e in cc)
-    | inr d ↦ absurd (let t : None ≡ Some (File bytes) = sym (root_others n d) ∙ e in cc)
-  ];
-  sorted_names = tt;
-  sorted_nodes = tt;
-}
 
 abbrev pub root_objects : Objects
 root_objects = objects.insert objects.empty (inode_key 1) (inode_value 1 0)

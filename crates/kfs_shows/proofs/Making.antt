@@ -15,7 +15,9 @@ use Rattle.kfs_model.specs.declared.Node.TheVariants.{Dir, File}
 use Rattle.kfs_model.specs.Tree.{Place, Name, Tree, with_new, place_cmp, greatest_length, IsTree, IsName, number_at, node_of, IsNameless}
 use Rattle.kfs_shows.specs.Named.{AllNamed}
 use Rattle.kfs_shows.specs.Shows.{ShowsTree, ShowsChunk, inode_of}
-use Rattle.kfs_shows.proofs.Lookups.{key_put, key_other, place_put, place_other, number_put, number_other, places_total, decide_place, decide_number, decide_bytes}
+use Rattle.kfs_laws.proofs.Making as laws
+pub use Rattle.kfs_laws.proofs.Making.{IsFreePlace}
+use Rattle.kfs_shows.proofs.Lookups.{key_put, key_other, decide_place, decide_number, decide_bytes, none_some}
 use Rattle.kfs_shows.proofs.KeysApart.{kinds, same_inode, same_parent, same_name}
 
 -- a directory, or a file of no bytes
@@ -32,18 +34,8 @@ fresh_file = record {
   lengths = λ bytes e. let f : [] ≡ bytes = cc in rw (← f) (omega arith);
 }
 
--- where the new node goes
-pub record IsFreePlace (t : Tree) (place : Place) (name : Name) (p : ℕ) : Type 0 where
-  pub at : number_at t place ≡ Some p
-  pub dir : node_of t p ≡ Some Dir
-  pub free : number_at t (place ++ name ∷ []) ≡ None
-  pub named : IsName name
-
 abbrev pub with_objects : Objects → ℕ → ℕ → Name → Node → Objects
 with_objects m next p name node = objects.insert (objects.insert m (inode_key next) (inode_of node)) (entry_key p name) (entry_value next)
-
-none_some : {A : Type 0} (o : Option A) (x : A) → o ≡ None → o ≢ Some x
-none_some o x n s = absurd (cc)
 
 module _ (t : Tree) (tree : IsTree t) (place : Place) (name : Name) (p : ℕ) (spot : IsFreePlace t place name p) (node : Node) (fresh : IsFresh node) where
   abbrev new : Place
@@ -53,73 +45,25 @@ module _ (t : Tree) (tree : IsTree t) (place : Place) (name : Name) (p : ℕ) (s
   after = with_new t new node
 
   number_new : number_at after new ≡ Some t.next
-  number_new = place_put new t.next t.names
+  number_new = laws.number_new t tree place name p spot node fresh.lengths
 
   number_old : (q : Place) → q ≢ new → number_at after q ≡ number_at t q
-  number_old q d = place_other q new t.next t.names d
+  number_old = laws.number_old t tree place name p spot node fresh.lengths
 
-  -- what is named was named before, or is new
   named_before : (q : Place) (n : ℕ) → number_at after q ≡ Some n → ((q ≡ new) × (n ≡ t.next)) ⊎ ((q ≢ new) × (number_at t q ≡ Some n))
-  named_before q n e = elim (decide_place q new) [
-    | inl same ↦ inl (same, same_Some n t.next (sym e ∙ ap (number_at after) same ∙ number_new))
-    | inr other ↦ inr (other, sym (number_old q other) ∙ e)
-  ]
+  named_before = laws.named_before t tree place name p spot node fresh.lengths
 
   node_new : node_of after t.next ≡ Some node
-  node_new = number_put t.next node t.nodes
+  node_new = laws.node_new t tree place name p spot node fresh.lengths
 
   node_old : (n : ℕ) → n ≢ t.next → node_of after n ≡ node_of t n
-  node_old n d = number_other n t.next node t.nodes d
-
-  below : (n : ℕ) (x : Node) → node_of t n ≡ Some x → n ≢ t.next
-  below n x e same = let h = (tree.numbers n x e).1 in absurd (omega arith)
+  node_old = laws.node_old t tree place name p spot node fresh.lengths
 
   named_below : (q : Place) (n : ℕ) → number_at t q ≡ Some n → n < t.next
-  named_below q n e = let x = tree.there q n e in (tree.numbers n x.0 x.1).1
-
-  node_kept : (n : ℕ) (x : Node) → node_of t n ≡ Some x → node_of after n ≡ Some x
-  node_kept n x e = node_old n (below n x e) ∙ e
-
-  root_old : [] ≢ new
-  root_old e = none_some _ 1 (ap (number_at t) e ∙ spot.free) tree.root
+  named_below = laws.named_below t tree place name p spot node fresh.lengths
 
   pub still_tree : IsTree after
-  still_tree = record {
-    root = number_old [] root_old ∙ tree.root;
-    root_dir = node_kept 1 Dir tree.root_dir;
-    parents = λ q x n e. elim (named_before (q ++ x ∷ []) n e) [
-      | inl (is, _) ↦ let f = (same_from_push q place x name is).0 in (p, number_old q (λ g. none_some _ p (sym (ap (number_at t) f) ∙ ap (number_at t) g ∙ spot.free) spot.at) ∙ ap (number_at t) f ∙ spot.at, node_kept p Dir spot.dir)
-      | inr (_, was) ↦ let m = tree.parents q x n was in (m.0, number_old q (λ g. none_some _ m.0 (ap (number_at t) g ∙ spot.free) m.1) ∙ m.1, node_kept m.0 Dir m.2)
-    ];
-    names = λ q x n e. elim (named_before (q ++ x ∷ []) n e) [
-      | inl (is, _) ↦ subst IsName (sym (same_from_push q place x name is).1) spot.named
-      | inr (_, was) ↦ tree.names q x n was
-    ];
-    apart = λ q r n e f. elim (named_before q n e) [
-      | inl (is, new_q) ↦ elim (named_before r n f) [
-        | inl (js, new_r) ↦ is ∙ sym js
-        | inr (_, was) ↦ let low = named_below r n was in absurd (omega arith)
-      ]
-      | inr (_, was) ↦ elim (named_before r n f) [
-        | inl (js, new_r) ↦ let low = named_below q n was in absurd (omega arith)
-        | inr (_, has) ↦ tree.apart q r n was has
-      ]
-    ];
-    there = λ q n e. elim (named_before q n e) [
-      | inl (_, is) ↦ (node, ap (node_of after) is ∙ node_new)
-      | inr (_, was) ↦ let x = tree.there q n was in (x.0, node_kept n x.0 x.1)
-    ];
-    numbers = λ n x e. elim (decide_number n t.next) [
-      | inl is ↦ let low = (tree.numbers 1 Dir tree.root_dir).1 in (omega arith, omega arith)
-      | inr other ↦ let h = tree.numbers n x (sym (node_old n other) ∙ e) in (h.0, omega arith)
-    ];
-    lengths = λ n bytes e. elim (decide_number n t.next) [
-      | inl is ↦ fresh.lengths bytes (same_Some _ _ (sym node_new ∙ sym (ap (node_of after) is) ∙ e))
-      | inr other ↦ tree.lengths n bytes (sym (node_old n other) ∙ e)
-    ];
-    sorted_names = is_sorted-put place_cmp places_total new t.next t.names tree.sorted_names;
-    sorted_nodes = is_sorted-put nat_cmp nat_cmp_total t.next node t.nodes tree.sorted_nodes;
-  }
+  still_tree = laws.new_tree t tree place name p spot node fresh.lengths
 
   -- where each node was named, each is
   pub still_named : AllNamed t → AllNamed after
@@ -153,7 +97,7 @@ module _ (t : Tree) (tree : IsTree t) (place : Place) (name : Name) (p : ℕ) (s
       where
         by : (o : Option Node) → node_of t t.next ≡ o → o ≡ None
         by None e = refl
-        by (Some x) e = absurd (below t.next x e refl)
+        by (Some x) e = let h = (tree.numbers t.next x e).1 in absurd (omega arith)
 
     new_below : (x : Name) → number_at after (new ++ x ∷ []) ≡ None
     new_below x = number_old (new ++ x ∷ []) (λ e. let h : length new + 1 ≡ length new = sym (length_push new x) ∙ ap length e in absurd (omega arith)) ∙ by (number_at t (new ++ x ∷ [])) refl

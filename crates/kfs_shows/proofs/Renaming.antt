@@ -13,11 +13,8 @@ use Rattle.kfs_laws.proofs.Moves.{below_is, below_itself}
 use Rattle.kfs_laws.proofs.Renamed.{IsGoal, renamed_tree, number_moved, number_other, number_gone, free_below, place_old, comes, front_of_push}
 use Rattle.kfs_shows.specs.Shows.{ShowsTree, ShowsChunk}
 use Rattle.kfs_shows.specs.Laws.{MovesEntry}
-use Rattle.kfs_shows.proofs.Lookups.{key_put, key_other, key_removed, key_kept, decide_place, decide_bytes}
+use Rattle.kfs_shows.proofs.Lookups.{key_put, key_other, key_removed, key_kept, decide_place, decide_bytes, none_some}
 use Rattle.kfs_shows.proofs.KeysApart.{kinds, same_parent, same_name}
-
-none_some : {A : Type 0} (o : Option A) (x : A) → o ≡ None → o ≢ Some x
-none_some o x n s = absurd (cc)
 
 -- a place one longer that isn't the front itself has no front that the shorter one lacks
 no_front : (front r : Place) (x : Name) → below front r ≡ None → r ++ x ∷ [] ≢ front → below front (r ++ x ∷ []) ≡ None

@@ -13,15 +13,12 @@ use Rattle.kfs_laws.proofs.Moves.{below_itself}
 use Rattle.kfs_laws.proofs.Renamed.{IsGoal}
 use Rattle.kfs_shows.specs.Shows.{ShowsTree}
 use Rattle.kfs_shows.specs.Laws.{DropsNamed, MovesOverKept, MovesOverDropped, without_node}
-use Rattle.kfs_shows.proofs.Lookups.{key_put, key_other, key_removed, key_kept, decide_bytes}
+use Rattle.kfs_shows.proofs.Lookups.{key_put, key_other, key_removed, key_kept, decide_bytes, none_some}
 use Rattle.kfs_shows.proofs.KeysApart.{kinds, same_parent, same_name}
 use Rattle.kfs_shows.proofs.Unnaming as unnaming
 use Rattle.kfs_shows.proofs.Dropping as dropping
 use Rattle.kfs_shows.proofs.UnnamingDrops as drops
 use Rattle.kfs_shows.proofs.Renaming as renaming
-
-none_some : {A : Type 0} (o : Option A) (x : A) → o ≡ None → o ≢ Some x
-none_some o x n s = absurd (cc)
 
 module _ (t : Tree) (tree : IsTree t) (up : Place) (was : Name) (place : Place) (name : Name) (p q n r : ℕ)
     (above : number_at t up ≡ Some p) (at : number_at t (up ++ was ∷ []) ≡ Some n) (to : number_at t place ≡ Some q)

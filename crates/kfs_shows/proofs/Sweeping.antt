@@ -14,23 +14,11 @@ use Rattle.kfs_model.specs.declared.Node.{Node}
 use Rattle.kfs_model.specs.Tree.{Place, Tree, place_cmp, is_named, chunks, chunks_of, IsTree, IsNameless, node_of}
 use Rattle.kfs_model.specs.Desk.{is_open}
 use Rattle.kfs_model.specs.Step.{World, swept}
+use Rattle.kfs_model.proofs.Tests.{first_of, second_of, lt_apart}
 use Rattle.kfs_laws.proofs.Lookups.{some_found}
 use Rattle.kfs_shows.specs.Laws.{without_node}
 use Rattle.kfs_shows.specs.Sweeping.{AllOpen, OpenBut, Frees, keys_of}
 use Rattle.kfs_shows.proofs.Lookups.{places_total, same_places, tie_test, apart_test, decide_number}
-
-lt_apart : (r : Ordering) → T (is_lt r) → is_eq r ≡ false
-lt_apart Less h = refl
-lt_apart Equal h = absurd h
-lt_apart Greater h = absurd h
-
-first_of : (a b : Bool) → T (a && b) → T a
-first_of true b h = tt
-first_of false b h = absurd h
-
-second_of : (a b : Bool) → T (a && b) → T b
-second_of true b h = h
-second_of false b h = absurd h
 
 -- what is below all has no entry
 pub missing : {K X : Type 0} (R : K → K → Ordering) (k : K) (es : List (K × X)) → T (below_all R k es) → find R k es ≡ None

@@ -2,9 +2,6 @@
 use Rattle.std.proofs.Common.{◌≡◌, ◌≢◌, ℕ, ◌<◌, ◌≤◌, ◌+◌, ◌^◌, ◌&&◌, not, cond, true, false, Bool, inl, inr, refl, sym, ◌∙◌, ap, subst, arith, List, [], ◌∷◌, ◌++◌, length, Option, Some, None, is_some}
 use Rattle.std.specs.Option.{option_map}
 use Rattle.std.specs.FinMap as objects
-use Rattle.std.specs.FinMap.Entries.{is_sorted-where_key, find-where_key}
-use Rattle.std.specs.Str.{bytes_eq}
-use Rattle.std.proofs.lemmas.Slice.Eq.{bytes_eq-Decides}
 use Rattle.std.proofs.lemmas.List.{same_from_push, length_push}
 use Rattle.std.proofs.lemmas.Option.{same_Some}
 use Rattle.kv_device.specs.Objects.{Objects}
@@ -13,52 +10,9 @@ use Rattle.kfs_objects.specs.Records.{entry_value, orphan_value}
 use Rattle.kfs_objects.proofs.KeyLaws.{same64}
 use Rattle.kfs_model.specs.Tree.{Place, Name, Tree, below, without_place, place_cmp, IsTree, IsNameless, number_at, node_of}
 use Rattle.kfs_shows.specs.Shows.{ShowsTree, ShowsChunk}
-use Rattle.kfs_shows.proofs.Lookups.{key_put, key_other, key_removed, key_kept, same_places, decide_place, decide_number, decide_bytes}
+use Rattle.kfs_laws.proofs.Unnaming as laws
+use Rattle.kfs_shows.proofs.Lookups.{key_put, key_other, key_removed, key_kept, decide_place, decide_number, decide_bytes, none_some}
 use Rattle.kfs_shows.proofs.KeysApart.{kinds, tails, same_parent, same_name}
-
-cut : {A : Type 0} (b : Bool) (o : Option A) → is_some (cond b o None) ≡ true → (b ≡ true) × (is_some o ≡ true)
-cut true o e = (refl, e)
-cut false o e = absurd (cc)
-
--- two places that each begin with the other are one
-both_below : (a b : Place) → is_some (below a b) ≡ true → is_some (below b a) ≡ true → a ≡ b
-both_below [] [] e f = refl
-both_below [] (y ∷ b) e f = absurd (cc)
-both_below (x ∷ a) [] e f = absurd (cc)
-both_below (x ∷ a) (y ∷ b) e f =
-    let h = cut (bytes_eq x y) (below a b) e in
-    let k = cut (bytes_eq y x) (below b a) f in
-    let same : x ≡ y = (bytes_eq-Decides x y).0 h.0 in
-    let rest = both_below a b h.1 k.1 in
-    λ i. same i ∷ rest i
-
-bytes_same : (x : List ℕ) → bytes_eq x x ≡ true
-bytes_same x = (bytes_eq-Decides x x).1 refl
-
-below_itself : (a : Place) → is_some (below a a) ≡ true
-below_itself [] = refl
-below_itself (x ∷ a) = ap (λ b. is_some (cond b (below a a) None)) (bytes_same x) ∙ below_itself a
-
-both_true : (a b : Bool) → (a && b) ≡ true → (a ≡ true) × (b ≡ true)
-both_true true b e = (refl, e)
-both_true false b e = absurd (cc)
-
--- where the new places differ
-abbrev stays : Place → Place → Bool
-stays gone q = not (is_some (below gone q) && is_some (below q gone))
-
-stays_not : (gone : Place) → stays gone gone ≡ false
-stays_not gone = λ i. not (below_itself gone i && below_itself gone i)
-
-stays_other : (gone q : Place) → q ≢ gone → stays gone q ≡ true
-stays_other gone q d = by (is_some (below gone q) && is_some (below q gone)) refl
-  where
-    by : (b : Bool) → (is_some (below gone q) && is_some (below q gone)) ≡ b → not b ≡ true
-    by false e = refl
-    by true e = let h = both_true _ _ e in absurd (d (both_below q gone h.1 h.0))
-
-none_some : {A : Type 0} (o : Option A) (x : A) → o ≡ None → o ≢ Some x
-none_some o x n s = absurd (cc)
 
 module _ (t : Tree) (tree : IsTree t) (place : Place) (name : Name) (p n : ℕ) (up : number_at t place ≡ Some p) (at : number_at t (place ++ name ∷ []) ≡ Some n) (leaf : (x : Name) → number_at t ((place ++ name ∷ []) ++ x ∷ []) ≡ None) where
   abbrev gone : Place
@@ -67,20 +21,14 @@ module _ (t : Tree) (tree : IsTree t) (place : Place) (name : Name) (p n : ℕ) 
   abbrev now : Tree
   now = without_place t gone
 
-  number_is : (q : Place) → number_at now q ≡ cond (stays gone q) (number_at t q) None
-  number_is q = find-where_key place_cmp (stays gone) q (λ x e. ap (stays gone) (sym (same_places q x e))) t.names
-
   pub number_gone : number_at now gone ≡ None
-  number_gone = number_is gone ∙ ap (λ b. cond b (number_at t gone) None) (stays_not gone)
+  number_gone = laws.number_gone t gone
 
   pub number_old : (q : Place) → q ≢ gone → number_at now q ≡ number_at t q
-  number_old q d = number_is q ∙ ap (λ b. cond b (number_at t q) None) (stays_other gone q d)
+  number_old = laws.number_old t gone
 
   pub named_before : (q : Place) (k : ℕ) → number_at now q ≡ Some k → (q ≢ gone) × (number_at t q ≡ Some k)
-  named_before q k e = elim (decide_place q gone) [
-    | inl is ↦ absurd (none_some _ k (ap (number_at now) is ∙ number_gone) e)
-    | inr other ↦ (other, sym (number_old q other) ∙ e)
-  ]
+  named_before = laws.named_before t gone
 
   pub nameless : IsNameless now n
   nameless q e = let h = named_before q n e in h.0 (tree.apart q gone n h.1 at)
@@ -95,21 +43,7 @@ module _ (t : Tree) (tree : IsTree t) (place : Place) (name : Name) (p n : ℕ) 
   up_now = number_old place place_kept ∙ up
 
   pub still_tree : IsTree now
-  still_tree = record {
-    root = number_old [] (λ e. let h : length place + 1 ≡ 0 = sym (length_push place name) ∙ sym (ap length e) in absurd (omega arith)) ∙ tree.root;
-    root_dir = tree.root_dir;
-    parents = λ q x k e.
-        let h = named_before (q ++ x ∷ []) k e in
-        let m = tree.parents q x k h.1 in
-        (m.0, number_old q (λ is. none_some _ k (leaf x) (ap (λ r. number_at t (r ++ x ∷ [])) (sym is) ∙ h.1)) ∙ m.1, m.2);
-    names = λ q x k e. tree.names q x k (named_before (q ++ x ∷ []) k e).1;
-    apart = λ q r k e f. tree.apart q r k (named_before q k e).1 (named_before r k f).1;
-    there = λ q k e. tree.there q k (named_before q k e).1;
-    numbers = tree.numbers;
-    lengths = tree.lengths;
-    sorted_names = is_sorted-where_key place_cmp (stays gone) t.names tree.sorted_names;
-    sorted_nodes = tree.sorted_nodes;
-  }
+  still_tree = laws.unnamed_tree t gone tree (λ e. let h : length place + 1 ≡ 0 = sym (length_push place name) ∙ ap length e in absurd (omega arith)) leaf
 
   module _ (m : Objects) (shows : ShowsTree m t) (reach : t.next ≤ 2 ^ 64) where
     abbrev after : Objects

@@ -51,9 +51,6 @@ delete_allowed r key ready few = λ i. cond (not (ready.up i)) (Some Off) (cond 
 bounds_of : (m x new : Machine) → new ≡ x → SameBounds m x → SameBounds m new
 bounds_of m x new e b = subst (SameBounds m) (sym e) b
 
-same_bounds : (m : Machine) → SameBounds m m
-same_bounds m = record { most_cuts = refl; most_faults = refl; room_keys = refl; room_pages = refl }
-
 kept_bounds : (m x : Machine) → x.most_cuts ≡ m.most_cuts → x.most_faults ≡ m.most_faults → x.room_keys ≡ m.room_keys → x.room_pages ≡ m.room_pages → SameBounds m x
 kept_bounds m x a b c d = record { most_cuts = a; most_faults = b; room_keys = c; room_pages = d }
 

@@ -28,12 +28,6 @@ module _ (old : Machine) (up : old.up ≡ true) (idle : old.pending ≡ none_ope
   pub first_number : (tx : ℕ) → free_number old.pending ≡ Some tx → tx ≡ 0
   first_number tx f = let e : Some 0 ≡ Some tx = sym (ap free_number idle) ∙ f in cc
 
-  begins : begin_refusal old ≡ None
-  begins = λ i. cond (not (up i)) (Some Off) (cond (is_some (free_number (idle i))) None (Some Busy))
-
-  pub begin_met : (fault : DeviceFault) (new : Machine) → BeginFault old fault new → ⊥
-  begin_met fault new h = let f : IsFault None Never old fault new = subst (λ o. IsFault o Never old fault new) begins h in f
-
   begun_is : (tx : ℕ) (m : Machine) → BeginDone old tx m → m ≡ begun old 0
   begun_is tx m h = h.after ∙ ap (begun old) (first_number tx h.lowest)
 
@@ -45,18 +39,3 @@ module _ (old : Machine) (up : old.up ≡ true) (idle : old.pending ≡ none_ope
         get.found ∙ (λ i. objects.get (view (is i) (zero' i)) key) ∙ ap (λ m. objects.get m key) sees_stable,
         abort.after ∙ (λ i. aborted ((get.after ∙ is) i) (zero' i)) ∙ (λ i. record old { pending = slice_set (slice_set (idle i) 0 (Some objects.empty)) 0 None }) ∙ (λ i. record old { pending = sym idle i }),
       )
-
-  opened_reads : (m : Machine) (tx : ℕ) → tx ≡ 0 → m ≡ begun old 0 → first_of m tx None ≡ None
-  opened_reads m tx zero' is = (λ i. first_of (is i) (zero' i) None) ∙ (λ i. cond (not (up i)) (Some Off) (cond (not (is_some (changes_none i))) (Some NoTx) None))
-
-  pub abort_met : (tx : ℕ) (m1 m2 : Machine) (key : List ℕ) (value : Option (List ℕ)) (fault : DeviceFault) (new : Machine) → BeginDone old tx m1 → GetDone m1 tx key value m2 → AbortFault m2 tx fault new → ⊥
-  abort_met tx m1 m2 key value fault new begin get h =
-      let zero' = first_number tx begin.lowest in
-      let f : IsFault None Never m2 fault new = subst (λ o. IsFault o Never m2 fault new) (opened_reads m2 tx zero' (get.after ∙ begun_is tx m1 begin)) h in f
-
-  -- a read in it that fails
-  pub read_met : (tx : ℕ) (m1 : Machine) (fault : DeviceFault) (new : Machine) → BeginDone old tx m1 → ReadFault m1 tx fault new → Fallen old fault old.stable new
-  read_met tx m1 fault new begin h =
-      let at0 : ReadFault m1 0 fault new = subst (λ n. ReadFault m1 n fault new) (first_number tx begin.lowest) h in
-      let f = read_falls (started old 0 0) fault new (ready 0 0) (subst (λ m. ReadFault m 0 fault new) (begun_is tx m1 begin) at0) in
-      record { cause = f.cause; stable = f.stable; bounds = record { most_cuts = f.bounds.most_cuts; most_faults = f.bounds.most_faults; room_keys = f.bounds.room_keys; room_pages = f.bounds.room_pages } }

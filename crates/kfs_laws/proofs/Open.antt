@@ -14,7 +14,7 @@ use Rattle.kfs_model.specs.Step.{World, swept}
 use Rattle.kfs_laws.specs.Worlds.{WritesFiles}
 use Rattle.kfs_laws.proofs.Keeping.{swept_node}
 use Rattle.kfs_laws.proofs.Lookups.{number_put, number_other, decide_number, some_passes}
-use Rattle.kfs_step_laws.specs.Laws.{OpensNodes}
+use Rattle.kfs_laws.specs.WholeCalls.{OpensNodes}
 
 -- the node is there, as a file where it may be written
 abbrev pub Has : Tree → ℕ → Bool → Type 0

@@ -26,10 +26,11 @@ use Rattle.kfs_laws.proofs.Renamed.{IsGoal, renamed_tree}
 use Rattle.kfs_laws.proofs.Keeping.{swept_tree}
 use Rattle.kfs_laws.proofs.Fitting.{fits_pass, length_fitting}
 use Rattle.kfs_laws.proofs.Desks.{opened_is, free_number, closed_before, closing_is}
-use Rattle.kfs_step_laws.specs.Laws.{IsWhole}
-use Rattle.kfs_step_laws.proofs.Open
-use Rattle.kfs_step_laws.proofs.Reaching
-use Rattle.kfs_step_laws.proofs.Walking.{IsIn, free_in, ends_in, none_there, leaf_empty, file_leaf, neither_dots, push_some}
+use Rattle.kfs_laws.specs.WholeCalls.{IsWhole}
+use Rattle.kfs_laws.proofs.Open
+use Rattle.kfs_laws.proofs.Reaching
+use Rattle.kfs_laws.proofs.Walking.{IsIn, free_in, ends_in, none_there, leaf_empty, file_leaf, neither_dots}
+use Rattle.kfs_laws.proofs.RootAlone.{not_root}
 
 -- ---- how long contents become
 
@@ -76,7 +77,7 @@ module _ (t : Tree) (tree : IsTree t) where
 
   -- a name that ends a path, with nothing below it, goes
   bare_tree : (q : Place) → IsIn t q → ((x : Name) → number_at t (q ++ x ∷ []) ≡ None) → IsTree (without_place t q)
-  bare_tree q at leaf = unnamed_tree t q tree (λ e. push_some at.up at.name (sym at.same ∙ e)) leaf
+  bare_tree q at leaf = unnamed_tree t q tree (λ e. not_root at.up at.name (sym at.same ∙ e)) leaf
 
   -- what lies at a place, or below it, lies at another
   moved_tree : (p q : Place) → IsIn t q → ((x : Name) → number_at t (q ++ x ∷ []) ≡ None) → below p q ≡ None → IsTree (renamed (without_place t q) p q)

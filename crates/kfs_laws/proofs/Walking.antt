@@ -44,10 +44,6 @@ parent_push up x =
     let n : length (up ++ x ∷ []) - 1 ≡ length up = omega arith in
     ap (λ k. take k (up ++ x ∷ [])) n ∙ take-append-le (length up) up (x ∷ []) le ∙ take_all (length up) up le
 
-pub push_some : (up : Place) (x : Name) → up ++ x ∷ [] ≢ []
-push_some [] x e = cc
-push_some (y ∷ up) x e = cc
-
 -- the directory that a place lies in, and its name there
 pub record IsIn (t : Tree) (place : Place) : Type 0 where
   pub up : Place

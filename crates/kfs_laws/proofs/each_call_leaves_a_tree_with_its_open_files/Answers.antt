@@ -2,10 +2,10 @@ use Rattle.kfs_model.specs.Step.{World, effect, step}
 use Rattle.kfs_laws.specs.Worlds.{IsDesk}
 use Rattle.kfs_laws.proofs.Outcomes.{settled_is}
 use Rattle.kfs_laws.proofs.Desks.{desks}
-use Rattle.kfs_step_laws.proofs.Open.{nodes_of, files_of}
-use Rattle.kfs_step_laws.proofs.Calls.{Keeps, still, keeps}
-use Rattle.kfs_step_laws.proofs.Start.{root_is_whole}
-use Rattle.kfs_step_laws.proofs.each_call_leaves_a_tree_with_its_open_files.Goals as goal
+use Rattle.kfs_laws.proofs.Open.{nodes_of, files_of}
+use Rattle.kfs_laws.proofs.Calls.{Keeps, still, keeps}
+use Rattle.kfs_laws.proofs.Start.{root_is_whole}
+use Rattle.kfs_laws.proofs.each_call_leaves_a_tree_with_its_open_files.Goals as goal
 
 pub returns : goal.returns
 returns c = (

@@ -1,13 +1,9 @@
--- A root alone with nothing open.
-use Rattle.std.proofs.Common.{◌≡◌, ◌≢◌, ℕ, inl, inr, cond, sym, ◌∙◌, ap, refl, arith, [], ◌∷◌, ◌++◌, Some, None}
+-- A root alone is a tree.
+use Rattle.std.proofs.Common.{◌≡◌, ◌≢◌, ℕ, inl, inr, cond, sym, ◌∙◌, ap, refl, arith, List, [], ◌∷◌, ◌++◌, Some, None}
 use Rattle.std.proofs.lemmas.Option.{same_Some}
 use Rattle.kfs_model.specs.declared.Node.TheVariants.{Dir, File}
-use Rattle.kfs_model.specs.Tree.{Place, root_alone, IsTree, number_at, node_of}
-use Rattle.kfs_model.specs.Desk.{empty_desk}
+use Rattle.kfs_model.specs.Tree.{Place, Name, root_alone, IsTree, number_at, node_of}
 use Rattle.kfs_laws.proofs.Lookups.{decide_place, decide_number, place_apart, number_apart}
-use Rattle.kfs_laws.proofs.Desks.{empty_is}
-use Rattle.kfs_step_laws.specs.Laws.{IsWhole}
-use Rattle.kfs_step_laws.proofs.Walking.{push_some}
 
 root_named : (q : Place) (n : ℕ) → number_at root_alone q ≡ Some n → (q ≡ []) × (n ≡ 1)
 root_named q n e = elim (decide_place q []) [
@@ -15,15 +11,22 @@ root_named q n e = elim (decide_place q []) [
   | inr d ↦ absurd (let t : None ≡ Some n = sym (ap (λ b. cond b (Some 1) None) (place_apart q [] d)) ∙ e in cc)
 ]
 
-root_others : (n : ℕ) → n ≢ 1 → node_of root_alone n ≡ None
+pub not_root : (q : Place) (x : Name) → q ++ x ∷ [] ≢ []
+not_root [] x e = cc
+not_root (y ∷ q) x e = cc
+
+pub root_below : (q : Place) (x : Name) → number_at root_alone (q ++ x ∷ []) ≡ None
+root_below q x = ap (λ b. cond b (Some 1) None) (place_apart (q ++ x ∷ []) [] (not_root q x))
+
+pub root_others : (n : ℕ) → n ≢ 1 → node_of root_alone n ≡ None
 root_others n d = ap (λ b. cond b (Some Dir) None) (number_apart n 1 d)
 
-root_tree : IsTree root_alone
-root_tree = record {
+pub root_is_tree : IsTree root_alone
+root_is_tree = record {
   root = refl;
   root_dir = refl;
-  parents = λ q x n e. absurd (push_some q x (root_named (q ++ x ∷ []) n e).0);
-  names = λ q x n e. absurd (push_some q x (root_named (q ++ x ∷ []) n e).0);
+  parents = λ q x n e. absurd (not_root q x (root_named (q ++ x ∷ []) n e).0);
+  names = λ q x n e. absurd (not_root q x (root_named (q ++ x ∷ []) n e).0);
   apart = λ q r n e f. (root_named q n e).0 ∙ sym (root_named r n f).0;
   there = λ q n e. (Dir, ap (node_of root_alone) (root_named q n e).1);
   numbers = λ n x e. elim (decide_number n 1) [
@@ -36,16 +39,4 @@ root_tree = record {
   ];
   sorted_names = tt;
   sorted_nodes = tt;
-}
-
-pub root_is_whole : IsWhole (record { tree = root_alone; desk = empty_desk })
-root_is_whole = record {
-  tree = root_tree;
-  desk = empty_is;
-  there = λ d it e. absurd (cc);
-  files = λ d it e may. absurd (cc);
-  reached = λ n x e. elim (decide_number n 1) [
-    | inl is ↦ inl ([], ap Some (sym is))
-    | inr d ↦ absurd (let t : None ≡ Some x = sym (root_others n d) ∙ e in cc)
-  ];
 }

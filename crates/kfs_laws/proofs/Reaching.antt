@@ -12,7 +12,7 @@ use Rattle.kfs_model.specs.Desk.{Desk, is_open}
 use Rattle.kfs_model.specs.Step.{World, swept}
 use Rattle.kfs_laws.proofs.Keeping.{swept_node}
 use Rattle.kfs_laws.proofs.Lookups.{same_places, places_total, place_put, place_other, number_put, number_other, decide_number, none_some, passed, any_found, number_found, same_number}
-use Rattle.kfs_step_laws.specs.Laws.{IsReached}
+use Rattle.kfs_laws.specs.WholeCalls.{IsReached}
 
 abbrev pub Reached : Tree → Desk → Type 0
 Reached t desk = (n : ℕ) (node : Node) → node_of t n ≡ Some node → IsReached (record { tree = t; desk = desk }) n

@@ -10,7 +10,7 @@ use Rattle.kfs_model.specs.declared.Answer.{Answer}
 use Rattle.kfs_model.specs.declared.Answer.TheVariants as answers
 use Rattle.kfs_model.specs.Tree.{Limits}
 use Rattle.kfs_model.specs.Life.{State, Now, Up, Down, EventAt, is_armed, disarmed, with_now, up_at}
-use Rattle.kfs_step_laws.specs.Plain.{is_plain, IsUnarmed, GoesPlainly, NothingFailsUnplanned}
+use Rattle.kfs_laws.specs.Plain.{is_plain, IsUnarmed, GoesPlainly, NothingFailsUnplanned}
 
 both_left : (a b : Bool) → (a && b) ≡ true → a ≡ true
 both_left true b e = refl

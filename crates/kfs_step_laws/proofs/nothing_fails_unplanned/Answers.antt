@@ -1,5 +1,0 @@
-use Rattle.kfs_step_laws.proofs.Plans.{plainly}
-use Rattle.kfs_step_laws.proofs.nothing_fails_unplanned.Goals as goal
-
-pub returns : goal.returns
-returns c = plainly
