@@ -1,7 +1,7 @@
 -- The charge and the chunks that a mount counts are the tree's.
-use Rattle.std.proofs.Common.{◌≡◌, ◌≢◌, ℕ, suc, ◌<◌, ◌≤◌, ◌+◌, ◌-◌, ◌*◌, ◌^◌, ◌&&◌, inl, inr, not, true, false, cond, Bool, T, refl, sym, ◌∙◌, ap, arith, List, [], ◌∷◌, ◌++◌, length, map, min, filter, take, sum_by, Option, Some, None}
+use Rattle.std.proofs.Common.{◌≡◌, ◌≢◌, ℕ, suc, ◌<◌, ◌≤◌, ◌+◌, ◌-◌, ◌*◌, ◌^◌, ◌&&◌, inl, inr, true, false, cond, Bool, T, refl, sym, ◌∙◌, ap, arith, List, [], ◌∷◌, ◌++◌, length, map, min, filter, take, sum_by, Option, Some, None}
 use Rattle.std.specs.Option.{option_map}
-use Rattle.std.specs.Ordering.{nat_cmp, eq_by_cmp, is_eq, is_lt, is_gt}
+use Rattle.std.specs.Ordering.{nat_cmp, eq_by_cmp, is_eq, is_lt}
 use Rattle.std.specs.declared.cmp.Ordering.{Ordering}
 use Rattle.std.specs.declared.cmp.Ordering.TheVariants.{Less, Equal, Greater}
 use Rattle.std.specs.Cmp.{nat_cmp_total}
@@ -19,10 +19,12 @@ use Rattle.kfs_objects.specs.Records.{read_inode}
 use Rattle.kfs_model.specs.declared.Node.{Node}
 use Rattle.kfs_model.specs.declared.Node.TheVariants.{Dir, File}
 use Rattle.kfs_model.specs.Tree.{Tree, chunks_of, chunks, charge, greatest_length, node_of}
+use Rattle.kfs_model.proofs.Tests.{first_of, second_of, lt_apart}
 use Rattle.kfs_shows.specs.Shows.{inode_of}
 use Rattle.kfs_shows.proofs.Lookups.{same_bytes, decide_number, tie_test, apart_test}
 use Rattle.kfs_shows.proofs.KeysApart.{kinds, same_inode}
-use Rattle.kfs_shows.proofs.Charging.{sum_by-put}
+use Rattle.kfs_shows.proofs.Sweeping.{missing}
+use Rattle.kfs_damages.proofs.Counts.{inodes, AllLow, inode_found, inode_find, sum_entries}
 use Rattle.kfs_core.specs.Stands.{Stands}
 use Rattle.kfs_core.specs.Counted.{weigh, weigh_chunks, charge_in, chunks_in}
 use Rattle.kfs_core.proofs.Ways.{kind_of, read_inode_of}
@@ -41,75 +43,8 @@ few_taken pairs es n e =
     let long : length pairs ≡ min n (length es) = sym (length-map pairs pair_of) ∙ ap (λ (l : List (List ℕ × List ℕ)). length l) e ∙ length-take n es in
     omega arith
 
-abbrev inodes : List (ℕ × Node) → List (List ℕ × List ℕ)
-inodes [] = []
-inodes (e ∷ es) = (inode_key e.0, inode_of e.1) ∷ inodes es
-
-abbrev AllLow : List (ℕ × Node) → Type 0
-AllLow [] = Unit {0}
-AllLow (e ∷ es) = (e.0 < 2 ^ 64) × AllLow es
-
--- what is found there is a node's
-inode_found : (es : List (ℕ × Node)) (q v : List ℕ) → AllLow es → find bytes_cmp q (inodes es) ≡ Some v → (n : ℕ) × (q ≡ inode_key n) × (n < 2 ^ 64)
-inode_found [] q v low e = absurd (cc)
-inode_found (x ∷ es) q v low e = by (bytes_cmp q (inode_key x.0)) refl (inode_found es q v low.1) e
-  where
-    by : (r : Ordering) → bytes_cmp q (inode_key x.0) ≡ r → (find bytes_cmp q (inodes es) ≡ Some v → (n : ℕ) × (q ≡ inode_key n) × (n < 2 ^ 64)) → cond (is_eq r) (Some (inode_of x.1)) (find bytes_cmp q (inodes es)) ≡ Some v → (n : ℕ) × (q ≡ inode_key n) × (n < 2 ^ 64)
-    by Less r rest e = rest e
-    by Greater r rest e = rest e
-    by Equal r rest e = (x.0, same_bytes q (inode_key x.0) r, low.0)
-
-inode_find : (es : List (ℕ × Node)) (n : ℕ) → n < 2 ^ 64 → AllLow es → find bytes_cmp (inode_key n) (inodes es) ≡ option_map inode_of (find nat_cmp n es)
-inode_find [] n lt low = refl
-inode_find (x ∷ es) n lt low = elim (decide_number n x.0) [
-  | inl same ↦
-      ap (λ b. cond b (Some (inode_of x.1)) (find bytes_cmp (inode_key n) (inodes es))) (ap (λ k. eq_by_cmp bytes_cmp (inode_key n) (inode_key k)) (sym same) ∙ tie_test nat_list_cmp_total same_bytes (inode_key n))
-      ∙ sym (ap (λ b. option_map inode_of (cond b (Some x.1) (find nat_cmp n es))) (ap (eq_by_cmp nat_cmp n) (sym same) ∙ tie_test nat_cmp_total objects.nat_cmp-IsAntisymmetric n))
-  | inr other ↦
-      ap (λ b. cond b (Some (inode_of x.1)) (find bytes_cmp (inode_key n) (inodes es))) (apart_test nat_list_cmp_total same_bytes (inode_key n) (inode_key x.0) (λ k. other (same_inode n x.0 lt low.0 k)))
-      ∙ inode_find es n lt low.1
-      ∙ sym (ap (λ b. option_map inode_of (cond b (Some x.1) (find nat_cmp n es))) (apart_test nat_cmp_total objects.nat_cmp-IsAntisymmetric n x.0 other))
-]
-
-first_of : (a b : Bool) → T (a && b) → T a
-first_of true b h = tt
-first_of false b h = absurd h
-
-second_of : (a b : Bool) → T (a && b) → T b
-second_of true b h = h
-second_of false b h = absurd h
-
-lt_apart : (r : Ordering) → T (is_lt r) → is_eq r ≡ false
-lt_apart Less h = refl
-lt_apart Equal h = absurd h
-lt_apart Greater h = absurd h
-
-number_missing : (n : ℕ) (es : List (ℕ × Node)) → T (below_all nat_cmp n es) → find nat_cmp n es ≡ None
-number_missing n [] h = refl
-number_missing n (e ∷ es) h = ap (λ b. cond b (Some e.1) (find nat_cmp n es)) (lt_apart (nat_cmp n e.0) (first_of _ _ h)) ∙ number_missing n es (second_of _ _ h)
-
 abbrev weighed : (Option (ℕ × ℕ) → ℕ) → List ℕ × List ℕ → ℕ
 weighed weight e = weight (read_inode e.1)
-
-no_length : {A : Type 0} (es : List A) → length es ≡ 0 → es ≡ []
-no_length [] e = refl
-no_length (x ∷ es) e = absurd (omega arith)
-
--- the order doesn't matter for the sum
-sum_entries : (weight : Option (ℕ × ℕ) → ℕ) (es : List (ℕ × Node)) → T (is_sorted nat_cmp es) → AllLow es → sum_by (weighed weight) (objects.entries (objects.from_entries {R = bytes_cmp} (inodes es))) ≡ sum_by (weighed weight) (inodes es)
-sum_entries weight [] h low = ap (sum_by (weighed weight)) nothing
-  where
-    nothing : objects.entries (objects.empty {X = List ℕ} {R = bytes_cmp}) ≡ []
-    nothing = no_length _ (sym (objects.len-entries (objects.empty {X = List ℕ} {R = bytes_cmp})) ∙ objects.len-empty bytes_cmp (List ℕ))
-sum_entries weight (x ∷ es) h low =
-    let rest = objects.from_entries {R = bytes_cmp} (inodes es) in
-    let missing : find bytes_cmp (inode_key x.0) (objects.entries rest) ≡ None =
-    sym (objects.get-entries rest (inode_key x.0)) ∙ objects.get-from_entries nat_list_cmp_total (inodes es) (inode_key x.0) ∙ inode_find es x.0 low.0 low.1 ∙ ap (option_map inode_of) (number_missing x.0 es (first_of _ _ h)) in
-    ap (sum_by (weighed weight)) (objects.entries-insert nat_list_cmp_total rest (inode_key x.0) (inode_of x.1))
-    ∙ sum_by-put (weighed weight) bytes_cmp (inode_key x.0) (inode_of x.1) (objects.entries rest) missing
-    ∙ ap (λ n. n + weighed weight (inode_key x.0, inode_of x.1)) (sum_entries weight es (second_of _ _ h) low.1)
-    ∙ (let s : sum_by (weighed weight) (inodes es) + weighed weight (inode_key x.0, inode_of x.1) ≡ weighed weight (inode_key x.0, inode_of x.1) + sum_by (weighed weight) (inodes es) = omega arith in s)
-    ∙ sym (sum_by-cons (weighed weight) (inode_key x.0, inode_of x.1) (inodes es))
 
 abbrev AllShort : List (ℕ × Node) → Type 0
 AllShort [] = Unit {0}
@@ -149,7 +84,7 @@ module _ (m : Objects) (t : Tree) (stands : Stands m t) where
   node_facts [] h f = (tt, tt)
   node_facts (x ∷ es) h f =
       let here = f x.0 x.1 (ap (λ b. cond b (Some x.1) (find nat_cmp x.0 es)) (tie_test nat_cmp_total objects.nat_cmp-IsAntisymmetric x.0)) in
-      let later : (n : ℕ) (y : Node) → find nat_cmp n es ≡ Some y → node_of t n ≡ Some y = λ n y e. f n y (ap (λ b. cond b (Some x.1) (find nat_cmp n es)) (apart_test nat_cmp_total objects.nat_cmp-IsAntisymmetric n x.0 (λ same. let bad : Some y ≡ None = sym e ∙ ap (λ k. find nat_cmp k es) same ∙ number_missing x.0 es (first_of _ _ h) in cc)) ∙ e) in
+      let later : (n : ℕ) (y : Node) → find nat_cmp n es ≡ Some y → node_of t n ≡ Some y = λ n y e. f n y (ap (λ b. cond b (Some x.1) (find nat_cmp n es)) (apart_test nat_cmp_total objects.nat_cmp-IsAntisymmetric n x.0 (λ same. let bad : Some y ≡ None = sym e ∙ ap (λ k. find nat_cmp k es) same ∙ missing nat_cmp x.0 es (first_of _ _ h) in cc)) ∙ e) in
       let rest = node_facts es (second_of _ _ h) later in
       (((let b = (stands.tree.numbers x.0 x.1 here).1 in let l = stands.low in omega arith), rest.0), ((λ bytes e. stands.tree.lengths x.0 bytes (here ∙ ap Some e)), rest.1))
 
@@ -158,10 +93,6 @@ module _ (m : Objects) (t : Tree) (stands : Stands m t) where
 
   abbrev wanted : List ℕ → Bool
   wanted q = is_wanted inode_front inode_front q
-
-  nil_le : (q : List ℕ) → not (is_gt (bytes_cmp [] q)) ≡ true
-  nil_le [] = refl
-  nil_le (b ∷ q) = refl
 
   wanted_inode : (n : ℕ) → wanted (inode_key n) ≡ true
   wanted_inode n = by (be64 n)
@@ -223,7 +154,7 @@ module _ (m : Objects) (t : Tree) (stands : Stands m t) where
   pairs_same = same_entries bytes_cmp nat_list_cmp_total same_bytes _ _ (is_sorted-where_key bytes_cmp wanted (objects.entries m) (objects.entries_sorted m)) (objects.entries_sorted (objects.from_entries {R = bytes_cmp} (inodes t.nodes))) found_same
 
   sum_same : (weight : Option (ℕ × ℕ) → ℕ) → objects.len m < 2 ^ 32 → sum_by (weighed weight) (take (2 ^ 32 - 1) (pairs_from m inode_front inode_front)) ≡ sum_by (weighed weight) (inodes t.nodes)
-  sum_same weight few = ap (sum_by (weighed weight)) (take_all (2 ^ 32 - 1) (pairs_from m inode_front inode_front) (let h = few_pairs in omega arith) ∙ pairs_same) ∙ sum_entries weight t.nodes stands.tree.sorted_nodes facts.0
+  sum_same weight few = ap (sum_by (weighed weight)) (take_all (2 ^ 32 - 1) (pairs_from m inode_front inode_front) (let h = few_pairs in omega arith) ∙ pairs_same) ∙ sum_entries (weighed weight) t.nodes stands.tree.sorted_nodes facts.0
 
   pub charge_same : objects.len m < 2 ^ 32 → charge_in m ≡ charge t
   unfolding charge_in

@@ -1,5 +1,6 @@
 -- The names in a directory, over its entry objects and over the tree.
 use Rattle.std.proofs.Common.{◌≡◌, ◌≢◌, ℕ, ◌<◌, ◌≤◌, ◌-◌, ◌^◌, ◌&&◌, inl, inr, not, true, false, cond, Bool, T, refl, sym, ◌∙◌, ap, subst, arith, List, [], ◌∷◌, ◌++◌, length, map, filter, take, drop, Option, Some, None, Ok, append-nil, take-append-drop}
+use Rattle.std.proofs.lemmas.Bool.{and_parts}
 use Rattle.std.specs.List.{filter_map, cons_option}
 use Rattle.std.specs.Option.{option_map, option_and_then}
 use Rattle.std.specs.Ordering.{nat_cmp, eq_by_cmp, is_eq, is_lt, is_gt, ordering_then}
@@ -30,6 +31,7 @@ use Rattle.kfs_model.specs.declared.Node.TheVariants.{Dir, File}
 use Rattle.kfs_model.specs.Ladder.{◌>>◌, ◌when◌}
 use Rattle.kfs_model.specs.Tree.{entry_at}
 use Rattle.kfs_model.specs.Step.{list_of, is_there, is_file, has_file}
+use Rattle.kfs_model.proofs.Tests.{lower, is_lower, both, first_of, second_of}
 use Rattle.kfs_core.specs.Stands.{Stands}
 use Rattle.kfs_core.specs.Flat.{found_in, listed_in, list_in}
 use Rattle.kfs_core.proofs.Ways.{bytes_eq_refl}
@@ -101,26 +103,6 @@ kids_names n place (e ∷ es) = by (child place e.0) (kids_names n place es)
     by None rest = rest
     by (Some x) rest = λ i. name_of_entry n x i ∷ rest i
 
-lower : (o : Ordering) → T (is_lt o) → o ≡ Less
-lower Less h = refl
-lower Equal h = absurd h
-lower Greater h = absurd h
-
-is_lower : (o : Ordering) → o ≡ Less → T (is_lt o)
-is_lower o e = subst (λ r. T (is_lt r)) (sym e) tt
-
-both : (a b : Bool) → T a → T b → T (a && b)
-both true b p q = q
-both false b p q = p
-
-first_of : (a b : Bool) → T (a && b) → T a
-first_of true b h = tt
-first_of false b h = absurd h
-
-second_of : (a b : Bool) → T (a && b) → T b
-second_of true b h = h
-second_of false b h = absurd h
-
 kids_below : (n : ℕ) (place : Place) (x : Name) (es : List (Place × ℕ)) → T (below_all place_cmp (place ++ x ∷ []) es) → T (below_all bytes_cmp (entry_key n x) (kids n place es))
 kids_below n place x [] h = tt
 kids_below n place x (e ∷ es) h = by (child place e.0) refl (kids_below n place x es (second_of _ _ h))
@@ -181,17 +163,13 @@ not_greater (b ∷ x) = refl
 wanted_entry : (n : ℕ) (x : Name) → is_wanted (prefix n) (prefix n) (entry_key n x) ≡ true
 wanted_entry n x = (λ i. not (is_gt (entry_cmp n [] x i)) && bytes_eq (prefix n) (front n x i)) ∙ (λ i. not_greater x i && bytes_eq_refl (prefix n) i)
 
-both_true : (a b : Bool) → (a && b) ≡ true → (a ≡ true) × (b ≡ true)
-both_true true b e = (refl, e)
-both_true false b e = absurd (cc)
-
 split_prefix : (n : ℕ) (rest : List ℕ) → prefix n ++ rest ≡ entry_key n rest
 split_prefix n rest = ap (λ xs. 101 ∷ (xs ++ rest)) (append-nil (be64 n))
 
 wanted_is : (n : ℕ) (q : List ℕ) → is_wanted (prefix n) (prefix n) q ≡ true → (x : Name) × (q ≡ entry_key n x)
 wanted_is n q e =
     let k = length (prefix n) in
-    let is : prefix n ≡ take k q = from_eq (prefix n) (take k q) (both_true _ _ e).1 in
+    let is : prefix n ≡ take k q = from_eq (prefix n) (take k q) (and_parts _ _ e).1 in
     (drop k q, sym (take-append-drop k q) ∙ ap (λ p. p ++ drop k q) (sym is) ∙ split_prefix n (drop k q))
 
 module _ (m : Objects) (t : Tree) (tree : IsTree t) (shows : ShowsTree m t) (place : Place) (n : ℕ) (at : number_at t place ≡ Some n) where

@@ -116,9 +116,6 @@ module _ (old put : Tx) (n p : ℕ) (given : List ℕ) (puts : PutsBytes old n p
 -- ---- what it takes of the room
 
 module _ (t : Tree) (n : ℕ) (bytes : List ℕ) (tree : IsTree t) (file : node_of t n ≡ Some (File bytes)) (p : ℕ) (given : List ℕ) where
-  more : ℕ
-  more = chunks_for (grown (length bytes) p (length given)) - chunks_for (length bytes)
-
   pub charge_after : charge t + (chunks_for (grown (length bytes) p (length given)) - chunks_for (length bytes)) ≡ charge (with_node t n (File (written bytes p given)))
   charge_after =
       let e = charge_written t n bytes (written bytes p given) tree.sorted_nodes file in

@@ -20,13 +20,6 @@ pub record IsSpaceOf (space : Space) (k : Limits) (t : Tree) : Type 0 where
 pub chunks_written : (t : Tree) (n : ℕ) (b c : List ℕ) → T (is_sorted nat_cmp t.nodes) → node_of t n ≡ Some (File b) → chunks (with_node t n (File c)) + chunks_for (length b) ≡ chunks t + chunks_for (length c)
 chunks_written t n b c sorted e = (replaced (λ e. chunks_of e.1) n (File b) (File c) t.nodes sorted e).0
 
--- so many chunks more
-more_chunks : (old new own top first : ℕ) → new + own ≡ old + top → own ≤ top → new ≡ old + (top - own)
-more_chunks old new own top first e le = omega arith
-
-no_less : (len p j : ℕ) → (len + 4095) / 4096 ≤ (p + j + (len - (p + j)) + 4095) / 4096
-no_less len p j = omega arith
-
 -- so many bytes pass
 passes : (c h C H K V len p j top : ℕ) → c + (len + 4095) / 4096 ≡ C + (p + j + (len - (p + j)) + 4095) / 4096 → h + (len + 4095) / 4096 ≡ H + (p + j + (len - (p + j)) + 4095) / 4096
     → C ≤ K → H ≤ V → top ≡ (len + 4095) / 4096 + min (K - C) (V - H) → p + j ≤ top * 4096 → (c ≤ K) × (h ≤ V)

@@ -12,6 +12,7 @@ use Rattle.std.specs.FinMap.Entries.{below_all, same_entries, is_sorted-where_ke
 use Rattle.kv_device.specs.Bytes.{bytes_cmp}
 use Rattle.kfs_model.specs.Tree.{Place, Name, Tree, place_cmp, below, child, IsTree, number_at}
 use Rattle.kfs_model.proofs.Renaming.{below-append}
+use Rattle.kfs_model.proofs.Tests.{lower, is_lower, both, first_of, second_of}
 use Rattle.kfs_laws.proofs.Lookups.{same_places, places_total, decide_place, place_apart, place_tied}
 use Rattle.kfs_laws.proofs.Moves.{below_is, no_front, below_itself, front_there}
 use Rattle.kfs_core.proofs.Children.{child_is, child_of}
@@ -36,26 +37,6 @@ before_sibling : (place : Place) (x y : Name) (u v : Place) → place_cmp (place
 before_sibling place x y u v h =
     let first : bytes_cmp x y ≡ Less = sym (then_equal (bytes_cmp x y)) ∙ sym (after_front place (x ∷ []) (y ∷ [])) ∙ h in
     (λ i. place_cmp (append_assoc place (x ∷ []) u i) (append_assoc place (y ∷ []) v i)) ∙ after_front place (x ∷ u) (y ∷ v) ∙ ap (λ r. ordering_then r (place_cmp u v)) first
-
-lower : (o : Ordering) → T (is_lt o) → o ≡ Less
-lower Less h = refl
-lower Equal h = absurd h
-lower Greater h = absurd h
-
-is_lower : (o : Ordering) → o ≡ Less → T (is_lt o)
-is_lower o e = subst (λ r. T (is_lt r)) (sym e) tt
-
-both : (a b : Bool) → T a → T b → T (a && b)
-both true b p q = q
-both false b p q = p
-
-first_of : (a b : Bool) → T (a && b) → T a
-first_of true b h = tt
-first_of false b h = absurd h
-
-second_of : (a b : Bool) → T (a && b) → T b
-second_of true b h = h
-second_of false b h = absurd h
 
 -- ---- two lists of entries, one behind the other
 

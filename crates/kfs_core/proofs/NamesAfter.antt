@@ -28,12 +28,6 @@ IsReplaced None k = ⊥
 IsReplaced (Some leaf) k = k ≡ leaf.node
 
 module _ (t : Tree) (tree : IsTree t) (p q : Place) (move : Move) (is : IsMove t p q move) where
-  abbrev from : Place
-  from = is.up ++ move.name ∷ []
-
-  abbrev onto : Place
-  onto = is.to ++ move.new_name ∷ []
-
   found : number_at t (is.up ++ move.name ∷ []) ≡ Some move.node
   found = ap (number_at t) (sym is.is) ∙ is.at
 

@@ -6,7 +6,7 @@ use Rattle.std.proofs.lemmas.List.{length-set}
 use Rattle.kv_device.specs.declared.fault.DeviceFault.{DeviceFault}
 use Rattle.kv_device.specs.Machine.{Machine, changes_of}
 use Rattle.kfs_objects.specs.Keys.{entry_key, orphan_key}
-use Rattle.kfs_objects.specs.Records.{orphan_value, inode_value, entry_value}
+use Rattle.kfs_objects.specs.Records.{orphan_value, entry_value}
 use Rattle.kfs_objects.proofs.KeyLaws.{length_be64}
 use Rattle.kv_device.specs.Objects.{Objects}
 use Rattle.kfs_path.specs.declared.call.Errno.{Errno}
@@ -33,9 +33,6 @@ put_fails r key value fault new small h = record {
 
 pub orphan_small : length orphan_value ≤ 128
 orphan_small = omega arith
-
-pub inode_small : (kind size : ℕ) → length (inode_value kind size) ≤ 128
-inode_small kind size = let h = length_be64 size in omega arith
 
 pub entry_small : (node : ℕ) → length (entry_value node) ≤ 128
 entry_small node = let h = length_be64 node in omega arith

@@ -1,6 +1,6 @@
 -- What a call that changes names or lengths is, before its change is counted: its step, its weight, and what the objects show.
-use Rattle.std.proofs.Common.{◌≡◌, ◌≢◌, ℕ, ◌<◌, ◌≤◌, ◌+◌, ◌-◌, ◌^◌, ◌&&◌, true, false, Bool, refl, sym, ◌∙◌, ap, subst, arith, List, length, Option, Some, None, Result, Ok, Err, nat_le, nat_lt, cond, ◌/◌}
-use Rattle.std.specs.Prelude.{pos}
+use Rattle.std.proofs.Common.{◌≡◌, ℕ, ◌<◌, ◌≤◌, ◌+◌, ◌-◌, ◌^◌, ◌&&◌, true, false, Bool, refl, sym, ◌∙◌, ap, subst, arith, List, Option, Some, None, Result, Ok, Err, nat_le}
+use Rattle.std.proofs.lemmas.Bool.{and_parts}
 use Rattle.std.proofs.lemmas.Bool.Decides.{nat_tests}
 use Rattle.kfs_path.specs.declared.call.Call.{Call}
 use Rattle.kfs_path.specs.declared.call.Call.TheVariants as calls
@@ -9,35 +9,28 @@ use Rattle.kfs_path.specs.declared.call.Reply.TheVariants as replies
 use Rattle.kfs_model.specs.declared.Node.{Node}
 use Rattle.kfs_model.specs.declared.Node.TheVariants.{Dir, File}
 use Rattle.kfs_model.specs.Ladder.{◌>>=◌}
-use Rattle.kfs_model.specs.Tree.{Tree, Place, Limits, charge, chunks, has_room, with_node, without_place, renamed, resized, greatest_length, IsNameless, node_of}
+use Rattle.kfs_model.specs.Tree.{Tree, Place, Limits, charge, chunks, has_room, without_place, renamed, IsNameless, node_of}
 use Rattle.kfs_model.specs.Desk.{Desk, is_open}
-use Rattle.kfs_model.specs.Step.{World, Route, syntax, step, settled, swept, unlink, rmdir_at, rename, leaves_swept, changes_tree, truncate, content}
-use Rattle.kfs_model.specs.Change.{weight, resizing, node_resizing}
+use Rattle.kfs_model.specs.Step.{World, Route, syntax, step, settled, swept, unlink, rmdir_at, rename, leaves_swept}
+use Rattle.kfs_model.specs.Change.{weight}
 use Rattle.kfs_shows.specs.Sweeping.{ShowsWorld, OpenBut, Frees, with_tree}
-use Rattle.kfs_laws.proofs.Lookups.{number_put}
-use Rattle.kfs_file.proofs.Resizing.{length_resized}
 use Rattle.kfs_tx.specs.Tx.{Tx, IsReady, seen, changed_keys, deleted_in}
 use Rattle.kfs_file.specs.Contents.{pending_of}
-use Rattle.kfs_core.specs.declared.room.Space.{Space}
 use Rattle.kfs_objects.specs.Keys.{orphan_key}
 use Rattle.kfs_core.specs.Stands.{Stands}
 use Rattle.kfs_core.specs.Flat.{inode_in}
 use Rattle.kfs_core.proofs.Pieces.{ok_is}
 use Rattle.kfs_core.specs.Room.{chunks_for}
-use Rattle.kfs_core.specs.Files.{with_length}
 use Rattle.kfs_core.specs.Removing.{Leaf, Goes, Unnames, chunks_gone, keys_gone, unlink_in, rmdir_in, release_at}
 use Rattle.kfs_core.specs.Renaming.{Move, Replaces, with_moved, chunks_replaced, keys_replaced, rename_in}
-use Rattle.kfs_core.specs.Resizing.{PutsLength, resize_weight}
 use Rattle.kfs_core.proofs.Ways.{kind_of}
 use Rattle.kfs_core.proofs.FileEffects.{SameNumbers}
-use Rattle.kfs_core.proofs.Fitting.{IsSpaceOf}
 use Rattle.kfs_core.proofs.Ladders.{of_ok, of_err}
 use Rattle.kfs_core.proofs.RemovingJudges.{IsLeaf, UnlinksLeaf, unlink_same, RemovesLeaf, rmdir_same}
 use Rattle.kfs_core.proofs.RenamingJudges.{IsMove, IsOver, MovesPath, rename_same}
 use Rattle.kfs_core.proofs.RemovingEffects.{LeavesWorld, unnames_leaves, moves_leaves, releases_leaves}
-use Rattle.kfs_core.proofs.ResizingJudges.{charge_resized, chunks_resized, resized_stays, resized_rests, resized_shows}
-use Rattle.kfs_core.proofs.CuttingJudges.{CutsTree, truncate_in, truncate_same, release_finds}
-use Rattle.kfs_core.proofs.Weights.{unlink_weight, close_weight, no_chunks, moves_left, rename_weight, rename_stays, resizing_is}
+use Rattle.kfs_core.proofs.CuttingJudges.{release_finds}
+use Rattle.kfs_core.proofs.Weights.{unlink_weight, close_weight, no_chunks, moves_left, rename_weight, rename_stays}
 
 -- a change that is put but not counted yet, with the open files after the call: n is its weight, c and p what is taken of the keys and pages then
 pub record Plan (r mid : Tx) (k : Limits) (w : World) (desk_after : Desk) (call : Call) (n c p : ℕ) : Type 0 where
@@ -74,14 +67,10 @@ numbers_of old new e = record {
   };
 }
 
-both_true : (a b : Bool) → (a && b) ≡ true → (a ≡ true) × (b ≡ true)
-both_true true b e = (refl, e)
-both_true false b e = absurd (cc)
-
 -- a smaller tree has room where a larger one has
 pub room_left : (k : Limits) (t u : Tree) (keys pages : ℕ) → Frees t u keys pages → has_room k t ≡ true → has_room k u ≡ true
 room_left k t u keys pages frees room =
-    let h = both_true (nat_le (charge t) k.keys) (nat_le (chunks t) k.pages) room in
+    let h = and_parts (nat_le (charge t) k.keys) (nat_le (chunks t) k.pages) room in
     let a = frees.keys in
     let b = frees.pages in
     let x = h.0 in
@@ -235,79 +224,3 @@ module _ (r : Tx) (ready : IsReady r) (k : Limits) (w : World) (sh : ShowsWorld 
   pub rename_refused : (old new : List ℕ) (from to : Route) → syntax old ≡ Ok from → syntax new ≡ Ok to → (e : Errno) → rename_in (seen r) from to ≡ Err e → (d : ℕ) → step k d w (calls.Rename old new) ≡ record { world = w; reply = replies.Err e }
   rename_refused old new from to read_old read_new e is d =
       ap (settled w) (of_err (MovesPath (seen r) w.tree stands w.desk old) (rename w old new) (rename_in (seen r) from to) e (rename_same (seen r) w.tree stands w.desk old new from to read_old read_new) is)
-
-  -- ---- a new length
-
-  -- the weight of a new length, by the lengths
-  resize_weighs : (n : ℕ) (bytes : List ℕ) → node_of w.tree n ≡ Some (File bytes) → (size old : ℕ) → old ≡ length bytes → (u : Tree) → u ≡ with_node w.tree n (File (resized bytes size)) → resizing (length (content w.tree n)) (length (content u n)) ≡ resizing old size
-  resize_weighs n bytes file size old was u is =
-      let here : node_of u n ≡ Some (File (resized bytes size)) = ap (λ (t : Tree). node_of t n) is ∙ number_put n (File (resized bytes size)) w.tree.nodes in
-      let before : length (content w.tree n) ≡ old = ap length (content_of w.tree n bytes file) ∙ sym was in
-      let after : length (content u n) ≡ size = ap length (content_of u n (resized bytes size) here) ∙ length_resized bytes size in
-      λ i. resizing (before i) (after i)
-    where
-      content_of : (t : Tree) (n : ℕ) (bytes : List ℕ) → node_of t n ≡ Some (File bytes) → content t n ≡ bytes
-      content_of t n bytes e = rw e refl
-
-  -- whichever call gives a file another length, that is a change
-  pub resize_plan : (call : Call) (n : ℕ) (bytes : List ℕ) → (file : node_of w.tree n ≡ Some (File bytes)) → (size : ℕ) → size ≤ greatest_length → (old : ℕ) → old ≡ length bytes
-      → (u : Tree) → u ≡ with_node w.tree n (File (resized bytes size)) → has_room k u ≡ true
-      → ((d : ℕ) → step k d w call ≡ record { world = with_tree w u; reply = replies.Done })
-      → weight w call (record { world = with_tree w u; reply = replies.Done }) ≡ node_resizing w (record { world = with_tree w u; reply = replies.Done }) (Some n)
-      → old ≢ size → (put : Tx) → PutsLength r n old size put
-      → Plan r (with_length put n size) k w w.desk call (resize_weight old size) (charged + chunks_for size - chunks_for old) (chunked + chunks_for size - chunks_for old)
-  resize_plan call n bytes file size short old was u is fits steps weighs differ put puts =
-      let puts_bytes : PutsLength r n (length bytes) size put = subst (λ s. PutsLength r n s size put) was puts in
-      let rests = resized_rests r ready w sh low n bytes file size short put puts_bytes in
-      let shows = resized_shows r ready w sh low n bytes file size short put puts_bytes in
-      let few = rests.few ready in
-      let most = sh.tree.lengths n bytes file in
-      let weigh : resize_weight (length bytes) size ≡ resize_weight old size = ap (λ s. resize_weight s size) (sym was) in
-      record {
-        world = with_tree w u;
-        steps = steps;
-        weighs = weighs ∙ resize_weighs n bytes file size old was u is ∙ resizing_is old size differ;
-        numbers = numbers_of r (with_length put n size) rests.same;
-        ready = rests.ready ready;
-        few = omega arith;
-        light = cut_light old size (omega arith);
-        shows = subst (λ t. ShowsWorld (seen (with_length put n size)) (with_tree w t)) (sym is) shows;
-        desk = refl;
-        next = ap (λ (t : Tree). t.next) is;
-        charged = (λ i. charge_was i + chunks_for size - chunks_for (was i)) ∙ sym (ap charge is ∙ charge_resized w.tree sh.tree n bytes file size);
-        chunked = (λ i. chunks_was i + chunks_for size - chunks_for (was i)) ∙ sym (ap chunks is ∙ chunks_resized w.tree sh.tree n bytes file size);
-        room = fits;
-      }
-    where
-      cut_light : (was now : ℕ) → was ≤ greatest_length → resize_weight was now ≤ 260
-      cut_light was now le = by (nat_lt now was)
-        where
-          by : (b : Bool) → 2 + cond b ((was + 4095) / 4096 - now / 4096) 0 ≤ 260
-          by true = omega arith
-          by false = omega arith
-
-  -- ---- a new length by a path
-
-  module _ (space : Space) (is_space : IsSpaceOf space k w.tree) (path : List ℕ) (route : Route) (read : syntax path ≡ Ok route) (size n old : ℕ) (judged : truncate_in (seen r) space route size ≡ Ok (n, old)) where
-    found : (u : Tree) × (truncate k w.tree path (pos size) ≡ Ok u) × CutsTree (seen r) w.tree stands k path size u (n, old)
-    found = of_ok (CutsTree (seen r) w.tree stands k path size) (truncate k w.tree path (pos size)) (truncate_in (seen r) space route size) (n, old) (truncate_same (seen r) w.tree stands k space is_space path route read size) judged
-
-    truncate_steps : (d : ℕ) → step k d w (calls.Truncate path (pos size)) ≡ record { world = with_tree w found.0; reply = replies.Done }
-    truncate_steps d = ap (λ (x : Result Tree Errno). settled w (changes_tree w x)) found.1
-
-    -- the same length changes nothing
-    pub truncate_rests : old ≡ size → ((d : ℕ) → step k d w (calls.Truncate path (pos size)) ≡ record { world = w; reply = replies.Done })
-    truncate_rests same d =
-        let cut = found.2 in
-        let stays : found.0 ≡ w.tree = cut.3 ∙ ap (λ s. with_node w.tree n (File (resized cut.0 s))) (sym same ∙ cut.4) ∙ resized_stays w.tree sh.tree n cut.0 cut.1 in
-        truncate_steps d ∙ (λ i. record { world = with_tree w (stays i); reply = replies.Done })
-
-    truncate_weighs : weight w (calls.Truncate path (pos size)) (record { world = with_tree w found.0; reply = replies.Done }) ≡ node_resizing w (record { world = with_tree w found.0; reply = replies.Done }) (Some n)
-    truncate_weighs = ap (node_resizing w (record { world = with_tree w found.0; reply = replies.Done })) found.2.2
-
-    -- another length is a change
-    pub truncate_plan : old ≢ size → (put : Tx) → PutsLength r n old size put
-        → Plan r (with_length put n size) k w w.desk (calls.Truncate path (pos size)) (resize_weight old size) (charged + chunks_for size - chunks_for old) (chunked + chunks_for size - chunks_for old)
-    truncate_plan differ put puts =
-        let cut = found.2 in
-        resize_plan (calls.Truncate path (pos size)) n cut.0 cut.1 size cut.6 old cut.4 found.0 cut.3 cut.5 truncate_steps truncate_weighs differ put puts

@@ -1,5 +1,6 @@
 -- What the judge of renaming answers over the objects is what the tree's definition says.
 use Rattle.std.proofs.Common.{◌≡◌, ◌≢◌, ℕ, zero, suc, ◌<◌, ◌≤◌, ◌+◌, ◌||◌, ◌&&◌, ◌==◌, not, true, false, cond, Bool, inl, inr, refl, sym, ◌∙◌, ap, subst, arith, List, [], ◌∷◌, ◌++◌, length, take, drop, get_or, take-append-drop, Option, Some, None, is_some, Result, Ok, nat_lt}
+use Rattle.std.proofs.lemmas.Bool.{and_parts}
 use Rattle.std.specs.List.{AllByRecursion, filter_map, list_any, cons_option}
 use Rattle.std.specs.Option.{option_map, option_and_then}
 use Rattle.std.specs.FinMap.{find}
@@ -70,10 +71,6 @@ pieces_read path route e = by (is_empty path) (is_too_long path) e
 none_of : (b : Bool) → not b ≡ true → b ≡ false
 none_of true e = absurd (cc)
 none_of false e = refl
-
-both_true : (a b : Bool) → (a && b) ≡ true → (a ≡ true) × (b ≡ true)
-both_true true b e = (refl, e)
-both_true false b e = absurd (cc)
 
 one_place : (p q : Place) → p ≡ q → is_same_place p q ≡ true
 one_place p q e = subst (λ r. is_same_place p r ≡ true) e (λ i. is_some (below_itself p i) && is_some (below_itself p i))
@@ -177,7 +174,7 @@ module _ (m : Objects) (t : Tree) (stands : Stands m t) where
       by : (c : Bool) → is_same_spot v u ≡ c → p ≢ q → c ≡ false
       by false e two = refl
       by true e two =
-          let h = both_true (parent_of v == parent_of u) (bytes_eq v.name u.name) e in
+          let h = and_parts (parent_of v == parent_of u) (bytes_eq v.name u.name) e in
           let test = h.0 in
           let number : parent_of v ≡ parent_of u = grind (arith, nat_tests) in
           let ups = stands.tree.apart a.up b.up (parent_of u) (a.above ∙ ap Some number) b.above in

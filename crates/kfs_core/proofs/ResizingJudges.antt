@@ -84,12 +84,6 @@ resized_stays t tree n bytes file =
 -- the objects after a file got another length
 module _ (r : Tx) (ready : IsReady r) (w : World) (sh : ShowsWorld (seen r) w) (low : w.tree.next ≤ 2 ^ 63) (n : ℕ) (bytes : List ℕ) (file : node_of w.tree n ≡ Some (File bytes))
     (size : ℕ) (short : size ≤ greatest_length) (put : Tx) (puts : PutsLength r n (length bytes) size put) where
-  abbrev now : Tree
-  now = with_node w.tree n (File (resized bytes size))
-
-  abbrev after : Tx
-  after = with_length put n size
-
   stands : Stands (seen r) w.tree
   stands = record { tree = sh.tree; shows = sh.shows; low = low }
 

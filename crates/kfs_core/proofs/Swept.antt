@@ -3,9 +3,6 @@ use Rattle.std.proofs.Common.{◌≡◌, ◌≢◌, ℕ, ◌<◌, ◌≤◌, ◌
 use Rattle.std.specs.Option.{option_and_then}
 use Rattle.std.specs.FinMap as objects
 use Rattle.kv_device.specs.Objects.{Objects}
-use Rattle.kfs_objects.specs.declared.keys.ObjectKey.{ObjectKey}
-use Rattle.kfs_objects.specs.declared.keys.ObjectKey.TheVariants.{Orphan}
-use Rattle.kfs_objects.specs.Forms.{SpellsKey, spells_super, spells_inode, spells_entry, spells_chunk, spells_orphan}
 use Rattle.kfs_objects.specs.Keys.{inode_key, orphan_key, IsObjectKey}
 use Rattle.kfs_objects.specs.Records.{read_inode}
 use Rattle.kfs_judge.specs.Judging.{is_key}
@@ -13,7 +10,7 @@ use Rattle.kfs_shows.proofs.Lookups.{decide_number, key_removed, key_kept}
 use Rattle.kfs_shows.proofs.KeysApart.{kinds, tails, same_inode}
 use Rattle.kfs_tx.specs.Tx.{Tx, IsReady, seen, committed, deleted_in}
 use Rattle.kfs_tx.proofs.Seeing.{ready_deleted, seen_deleted, seen_committed}
-use Rattle.kfs_core.specs.Clearing.{Clears, IsTidy, IsRoomy, Sweeps, IsOrphanFronted}
+use Rattle.kfs_core.specs.Clearing.{Clears, IsTidy, IsRoomy, Sweeps}
 use Rattle.kfs_core.specs.Flat.{inode_in}
 use Rattle.kfs_core.specs.Removing.{Goes}
 use Rattle.kfs_core.proofs.Dropped.{follows_deleted, goes_follows, inode_gone, others_kept}
@@ -126,14 +123,6 @@ module _ (old new : Tx) (node size : ℕ) (goes : Goes old node size new) (ready
       room_left old.machine (deleted_in new key).machine (seen old) (seen (deleted_in new key)) (ap (λ (r : Tx). r.machine.room_keys) same) (ap (λ (r : Tx). r.machine.room_pages) same) (deleted_sweeps key is).kept room
 
 -- ---- the key of an orphan object
-
--- no other key begins so
-pub only_orphans : (key : List ℕ) (form : ObjectKey) → SpellsKey key form → IsOrphanFronted key → ((n : ℕ) → form ≢ Orphan n) → ⊥
-only_orphans _ _ spells_super front other = absurd (cc)
-only_orphans _ _ (spells_inode n low) front other = absurd (cc)
-only_orphans _ _ (spells_entry n name low named) front other = absurd (cc)
-only_orphans _ _ (spells_chunk n c low small) front other = absurd (cc)
-only_orphans _ _ (spells_orphan n low) front other = other n refl
 
 some_of : (o : Option (List ℕ)) → IsSome o → (v : List ℕ) × (o ≡ Some v)
 some_of None h = absurd (cc)

@@ -11,9 +11,6 @@ use Rattle.kfs_core.specs.Listing.{At, at_of, item_at, right_below, Lists, lists
 abbrev pub Leads : Objects → List TreeItem → List Pending → Type 0
 Leads m told todo = (items : List TreeItem) → Lists m (reverse (map at_of todo)) items → ListsAll m (told ++ items)
 
-pub leads_first : (m : Objects) (first : Pending) → at_of first ≡ ([], 1) → Leads m [] (first ∷ [])
-leads_first m first is items h = subst (λ (at : At). Lists m (at ∷ []) items) is h
-
 pub leads_end : (m : Objects) (told : List TreeItem) (todo : List Pending) → todo ≡ [] → Leads m told todo → ListsAll m told
 leads_end m told todo none h = subst (ListsAll m) (append-nil told) (h [] (subst (λ (x : List Pending). Lists m (reverse (map at_of x)) []) (sym none) lists_none))
 

@@ -18,6 +18,7 @@ use Rattle.std.specs.Ordering.{is_eq}
 use Rattle.std.specs.Cmp.{tied_itself}
 use Rattle.std.specs.Cmp.Lexicographic.{nat_list_cmp_total}
 use Rattle.std.proofs.lemmas.Map.Text.{is_eq-slice_cmp}
+pub use Rattle.kfs_damages.proofs.Counts.{kind_of, read_inode_of}
 use Rattle.kfs_core.proofs.Pieces.{IsPart}
 use Rattle.kfs_shows.specs.Shows.{inode_of}
 use Rattle.kfs_core.specs.Stands.{Stands}
@@ -33,14 +34,6 @@ pub record IsSpot (t : Tree) (place : Place) (w : Where) : Type 0 where
 
 pub bytes_eq_refl : (xs : List ℕ) → bytes_eq xs xs ≡ true
 bytes_eq_refl xs = sym (is_eq-slice_cmp xs xs) ∙ ap is_eq (tied_itself nat_list_cmp_total xs)
-
-abbrev pub kind_of : Node → ℕ × ℕ
-kind_of Dir = (1, 0)
-kind_of (File bytes) = (2, length bytes)
-
-pub read_inode_of : (x : Node) → ((bytes : List ℕ) → x ≡ File bytes → length bytes ≤ greatest_length) → read_inode (inode_of x) ≡ Some (kind_of x)
-read_inode_of Dir h = read_inode_dir
-read_inode_of (File bytes) h = read_inode_file (length bytes) (let le = h bytes refl in omega arith)
 
 module _ (m : Objects) (t : Tree) (stands : Stands m t) where
   number_low : (place : Place) (n : ℕ) → number_at t place ≡ Some n → n < 2 ^ 63
@@ -93,9 +86,6 @@ module _ (m : Objects) (t : Tree) (stands : Stands m t) where
   up_spot : (place : Place) (w : Where) (n : ℕ) → IsSpot t place w → number_at t place ≡ Some n → IsSpot t (parent place) (up_from w)
   up_spot place w n spot e = by (length w.above == 0) refl
     where
-      some : w.node ≡ None → ⊥
-      some f = let bad : None ≡ Some n = sym f ∙ spot.node ∙ e in cc
-
       by : (b : Bool) → (length w.above == 0) ≡ b → IsSpot t (parent place) (cond b w (record { above = take (length w.above - 1) w.above; node = Some (get_or w.above (length w.above - 1) 0); name = w.name }))
       by true z =
           let none : length w.above ≡ 0 = grind (arith, nat_tests) in

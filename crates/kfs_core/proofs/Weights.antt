@@ -65,13 +65,6 @@ close_weight w u fd pages frees =
     let test : nat_lt (length u.tree.nodes) (length w.tree.nodes) ≡ true = grind (arith, nat_tests) in
     (λ i. cond (test i) (Some (4 + (chunks w.tree - chunks u.tree))) None) ∙ ap (λ n. Some (4 + n)) g
 
--- where nothing goes there is no change
-pub close_stays : (w u : World) (fd : ℕ) → u.tree.nodes ≡ w.tree.nodes → weight w (calls.Close fd) (record { world = u; reply = replies.Done }) ≡ None
-close_stays w u fd same =
-    let e : length u.tree.nodes ≡ length w.tree.nodes = ap length same in
-    let test : nat_lt (length u.tree.nodes) (length w.tree.nodes) ≡ false = grind (arith, nat_tests) in
-    λ i. cond (test i) (Some (4 + (chunks w.tree - chunks u.tree))) None
-
 -- from a length to another
 pub resizing_is : (was now : ℕ) → was ≢ now → resizing was now ≡ Some (resize_weight was now)
 resizing_is was now differ = by (nat_lt now was) (nat_lt was now) refl refl

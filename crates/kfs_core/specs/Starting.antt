@@ -2,6 +2,7 @@
 use Rattle.std.specs.Prelude.{◌≡◌, ◌<◌, ◌^◌, ◌⊎◌, Some}
 use Rattle.std.specs.Option.{option_and_then}
 use Rattle.std.specs.FinMap as objects
+use Rattle.kv_base.specs.declared.damage.Damage.{Damage}
 use Rattle.kv_device.specs.declared.fault.DeviceFault.{DeviceFault}
 use Rattle.kv_device.specs.declared.fault.DeviceFault.TheVariants.{Off, Failed, Memory}
 use Rattle.kv_device.specs.Objects.{Objects}
@@ -39,11 +40,12 @@ HostCause old Cut new = Rises old.cuts new.cuts old.most_cuts × (new.faults ≡
 HostCause old Eio new = Rises old.faults new.faults old.most_faults × (new.cuts ≡ old.cuts)
 HostCause old NoMem new = (new.cuts ≡ old.cuts) × (new.faults ≡ old.faults)
 
--- a mount failed so, and left the tree that the device holds, without some of its nameless nodes, possibly none
+-- a mount failed so, and left the tree that the device holds, without some of its nameless nodes, possibly none; damaged objects stay
 pub record NotMounted (old : Machine) (fault : HostFault) (new : Machine) : Type 0 where
   pub cause : HostCause old fault new
   pub keeps : Keeps old.stable new.stable
   pub bounds : SameBounds old new
+  pub damaged : (damage : Damage) → IsTreeDamage (room_in old) (heard old.stable) damage → new.stable ≡ old.stable
 
 -- nothing was damaged, and a mount began with the numbers of the super that is stored, removed the nameless nodes, and counted the charge and the chunks
 pub record Started (old : Machine) (new : KfsState) : Type 0 where

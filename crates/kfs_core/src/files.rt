@@ -14,7 +14,7 @@ ghost use Rattle.kfs_core.specs.Spot.{route_of, told_of};
 use crate::directories::place;
 use crate::making::{add_node, put_inode};
 use crate::room::{Space, chunks_for, fits};
-use crate::walking::{found, inode, parent, walk};
+use crate::walking::{inode, node_at, parent, walk};
 use crate::{CoreFault, Kfs};
 use kfs_file::{read_at, write_at};
 use kfs_objects::Inode;
@@ -141,7 +141,7 @@ fn reach<D: Device>(
     ensures age { Aged running.old running.new 0 }
 {
     let spot = walk(alloc, running, path.pieces.items())?;
-    Ok(found(alloc, running, spot.node)?)
+    Ok(node_at(alloc, running, spot.node)?)
 }
 
 /// The length of a file.

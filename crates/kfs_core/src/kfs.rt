@@ -23,7 +23,7 @@ use crate::counting::{Taken, count};
 use crate::directories::{names, place};
 use crate::making::add_node;
 use crate::mounting::{host_fault, is_low, stored_super};
-use crate::walking::{found, inode, parent, walk};
+use crate::walking::{inode, node_at, parent, walk};
 use crate::{CoreFault, HostFault};
 use kfs_judge::{JudgeFault, judge};
 use kfs_objects::{Inode, Super};
@@ -184,7 +184,7 @@ impl<D: Device> Kfs<D> {
         ensures rest { Stays self.old self.new }
         ensures age { Aged self.old.running self.new.running 0 }
     {
-        told(alloc, &mut self.running, node)
+        stat_node(alloc, &mut self.running, node)
     }
 
     /// The names in a directory, sorted by bytes.
@@ -289,7 +289,7 @@ fn look_up<D: Device>(
     ensures age { Aged running.old running.new 0 }
 {
     let spot = walk(alloc, running, path.pieces.items())?;
-    match found(alloc, running, spot.node)? {
+    match node_at(alloc, running, spot.node)? {
         None => Err(CoreFault::No(Errno::ENOENT)),
         Some((node, it)) => {
             if it.kind == 1 {
@@ -303,7 +303,11 @@ fn look_up<D: Device>(
     }
 }
 
-fn told<D: Device>(alloc: Global, running: &mut Running<D>, node: u64) -> Result<Inode, CoreFault>
+fn stat_node<D: Device>(
+    alloc: Global,
+    running: &mut Running<D>,
+    node: u64,
+) -> Result<Inode, CoreFault>
     requires { age_of running.old < 2 ^ 63 - 2 ^ 39 }
     ensures gives { Gives (λ i. (i.kind, i.length)) result (inode_at (inode_in (seen running.old.tx) node)) }
     ensures leaves { Leaves running.old.tx result running.new.tx }

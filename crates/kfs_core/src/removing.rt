@@ -13,7 +13,7 @@ ghost use Rattle.kfs_core.specs.Spot.{route_of, where_of};
 
 use crate::dropping::{GREATEST_LENGTH, delete_orphan, drop_node};
 use crate::room::chunks_for;
-use crate::walking::{Spot, found, inode, parent, walk};
+use crate::walking::{Spot, inode, node_at, parent, walk};
 use crate::{CoreFault, Kfs};
 use kfs_dir::{is_empty, remove};
 use kfs_model::{ends_in_dot, ends_in_dot_dot, ends_in_dots, is_root};
@@ -162,7 +162,7 @@ fn named_file<D: Device>(
         return Err(CoreFault::No(Errno::EPERM));
     }
     let spot = walk_to_name(alloc, running, pieces)?;
-    match found(alloc, running, spot.node)? {
+    match node_at(alloc, running, spot.node)? {
         None => Err(CoreFault::No(Errno::ENOENT)),
         Some((node, it)) => {
             if it.kind == 1 {
@@ -220,7 +220,7 @@ fn empty_directory<D: Device>(
         return Err(CoreFault::No(Errno::EBUSY));
     }
     let spot = walk_to_name(alloc, running, pieces)?;
-    match found(alloc, running, spot.node)? {
+    match node_at(alloc, running, spot.node)? {
         None => Err(CoreFault::No(Errno::ENOENT)),
         Some((node, it)) => {
             if it.kind != 1 {

@@ -14,7 +14,7 @@ ghost use Rattle.kfs_core.specs.Spot.{route_of, where_of};
 use crate::dropping::GREATEST_LENGTH;
 use crate::removing::{Leaf, chunks_lost, has_names, is_open_in, lose_name, walk_to_name};
 use crate::room::chunks_for;
-use crate::walking::{Spot, found, parent};
+use crate::walking::{Spot, node_at, parent};
 use crate::{CoreFault, Kfs};
 use kfs_dir::{add, remove};
 use kfs_model::{ends_in_dots, is_root};
@@ -54,7 +54,7 @@ impl<D: Device> Kfs<D> {
         ensures node { IfOk result (λ n. TellsReplaced (rename_in (seen (tx_in self.old)) (route_of old.now) (route_of new.now)) n) }
         ensures age { Aged self.old.running self.new.running (2 ^ 16) }
     {
-        match planned(alloc, &mut self.running, old, new)? {
+        match plan_move(alloc, &mut self.running, old, new)? {
             None => Ok(None),
             Some(moving) => {
                 rename_entry(alloc, &mut self.running, &moving, is_open)?;
@@ -232,7 +232,7 @@ fn needs_directory(is_dir: bool, trailing: bool, there: &Option<(u64, Inode)>) -
 }
 
 /// What moves, or nothing where both paths name one place.
-fn planned<D: Device>(
+fn plan_move<D: Device>(
     alloc: Global,
     running: &mut Running<D>,
     from: &Path,
@@ -261,7 +261,7 @@ fn planned<D: Device>(
         return Err(CoreFault::No(Errno::EBUSY));
     }
     let p = walk_to_name(alloc, running, old)?;
-    match found(alloc, running, p.node)? {
+    match node_at(alloc, running, p.node)? {
         None => Err(CoreFault::No(Errno::ENOENT)),
         Some((node, it)) => {
             let is_dir = it.kind == 1;
@@ -271,7 +271,7 @@ fn planned<D: Device>(
                 }
             }
             let q = walk_to_name(alloc, running, new)?;
-            let there = found(alloc, running, q.node)?;
+            let there = node_at(alloc, running, q.node)?;
             onto(alloc, running, to, node, is_dir, p, q, there)
         }
     }

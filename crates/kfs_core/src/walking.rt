@@ -146,7 +146,7 @@ pub fn walk<D: Device>(
 }
 
 /// What is at a node: its number and its inode.
-pub fn found<D: Device>(
+pub fn node_at<D: Device>(
     alloc: Global,
     running: &mut Running<D>,
     node: Option<u64>,

@@ -3,7 +3,11 @@ use Rattle.std.specs.FinMap as objects
 use Rattle.kv_device.specs.Objects.{Objects}
 use Rattle.kfs_tx.specs.Tx.{Tx, opened, seen}
 use Rattle.kfs_tx.proofs.Opening.{sees_stable}
-use Rattle.kfs_core.specs.Clearing.{Clears}
+use Rattle.kv_device.specs.Machine.{Machine}
+use Rattle.kfs_core.specs.declared.fault.HostFault.{HostFault}
+use Rattle.kfs_core.specs.Clearing.{Clears, ClearFails}
+use Rattle.kfs_core.specs.Starting.{NotMounted, host_fault}
+use Rattle.kfs_core.proofs.Refused.{fails_clear}
 use Rattle.kfs_core.specs.Counted.{charge_in, chunks_in}
 use Rattle.kfs_core.proofs.Cleared.{sees_now, now_cleared}
 use Rattle.kfs_damages.specs.Damages.{named_charge, named_chunks}
@@ -62,3 +66,13 @@ left_over-requires-clause-room g c =
     let m = g.D.Device.machine c.args.device in
     let sound = g.met.D.Device.sound c.args.device in
     subst IsRoomy (sym c.in-Ok.ensures.ok) (room_of (opened m c.args.head).machine (seen (opened m c.args.head)) m.stable (sees_stable m c.requires.up c.requires.idle) sound.keys sound.pages)
+
+pub returns-in-Err-left_over-clause-err : goal.returns-in-Err-left_over-clause-err
+returns-in-Err-left_over-clause-err g c =
+    let m = g.D.Device.machine c.args.device in
+    let fault = c.in-Err-left_over.fault in
+    let new = c.left_over.new.running.tx.machine in
+    let fails = subst (λ (old : Tx). ClearFails old fault new) c.in-Ok.ensures.ok c.in-Err-left_over.ensures.err in
+    let here = fails_clear m new fault c.requires.clear fails.cause fails.keeps (record { most_cuts = fails.bounds.most_cuts; most_faults = fails.bounds.most_faults; room_keys = fails.bounds.room_keys; room_pages = fails.bounds.room_pages }) in
+    subst (λ (f : HostFault). NotMounted m f (g.D.Device.machine c.into_device.result)) (sym c.host_fault-in-Err-left_over.ensures)
+    (subst (λ (x : Machine). NotMounted m (host_fault fault) x) (sym c.into_device.ensures.machine) here)
