@@ -34,14 +34,11 @@ use Rattle.kfs_posix.proofs.Changing.{IsPut, change_shown, sees, to_save}
 use Rattle.kfs_posix.proofs.Going.{Fell, spare, as_before, as_after, change_goes_at, fall_goes, Refuses}
 use Rattle.kfs_posix.proofs.Calls.{stands_of, room_for}
 use Rattle.kfs_core.specs.declared.fault.CoreFault.TheVariants.{Device}
+use Rattle.kfs_posix.proofs.Rooms.{both_true}
 
 keeps : (r : Tx) (b : Bool) → SameBounds r.machine (cond b (committed r) r).machine × ((cond b (committed r) r).machine.cuts ≡ r.machine.cuts) × ((cond b (committed r) r).machine.faults ≡ r.machine.faults)
 keeps r true = (record { most_cuts = refl; most_faults = refl; room_keys = refl; room_pages = refl }, refl, refl)
 keeps r false = (record { most_cuts = refl; most_faults = refl; room_keys = refl; room_pages = refl }, refl, refl)
-
-both_true : (a b : Bool) → (a && b) ≡ true → (a ≡ true) × (b ≡ true)
-both_true true b e = (refl, e)
-both_true false b e = absurd (cc)
 
 small_value : (n : ℕ) (key : List ℕ) → (nat_lt 128 (length (entry_value n)) && nat_lt 32 (length key)) ≡ false
 small_value n key = let h = length_be64 n in let f : nat_lt 128 (length (entry_value n)) ≡ false = grind (arith, nat_tests) in ap (λ b. b && nat_lt 32 (length key)) f

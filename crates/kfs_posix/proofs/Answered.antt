@@ -21,31 +21,25 @@ use Rattle.kfs_core.specs.declared.fault.CoreFault.{CoreFault}
 use Rattle.kfs_core.specs.declared.fault.CoreFault.TheVariants.{No, Device}
 use Rattle.kfs_core.specs.Core.{KfsState, tx_in, Stays}
 use Rattle.kfs_core.specs.Flat.{Where, place_in, stat_in, list_in}
-use Rattle.kfs_core.specs.Gives.{Fails, LeavesAtFault, CommitFails}
+use Rattle.kfs_core.specs.Gives.{Fails as GivesFault, LeavesAtFault, CommitFails}
 use Rattle.kfs_core.specs.Making.{MkdirFails, made, parent_of}
 use Rattle.kfs_posix.specs.declared.open_files.OpenFile.{OpenFile}
 use Rattle.kfs_posix.specs.Opens.{Opens, open_at}
 use Rattle.kfs_posix.specs.Volume.{Volume, SessionState, state_of, volume_of, running_in, limits_of, cause_of}
-use Rattle.kfs_posix.specs.Answering.{Counts, KeepsCause, refusal, down_after, IsAnswerable}
+use Rattle.kfs_posix.specs.Answering.{Answers, IsYoung, CountsFaults, KeepsCause, refusal, down_after}
 use Rattle.kfs_posix.specs.Looking.{found_by, names_by, told_by}
 use Rattle.std.proofs.lemmas.Bool.Decides.{nat_tests}
-use Rattle.kfs_posix.specs.Showing.{ShowsLive, GoesOn, IsShowing}
+use Rattle.kfs_posix.specs.Showing.{ShowsLive, GoesOn}
 use Rattle.std.specs.Prelude.{IsSome}
 use Rattle.kfs_posix.proofs.Going.{spare, idle_goes, down_goes, Refuses, errs}
 use Rattle.kfs_posix.proofs.Held.{described, opened_same}
 use Rattle.kfs_posix.proofs.Calls.{any_cause, commit_goes, commit_falls_in, stat_goes, list_goes, sync_goes, sync_falls}
 use Rattle.kfs_posix.proofs.Looking.{stat_same, list_same, told_ok, names_ok}
-use Rattle.kfs_posix.proofs.Fault.{stays_volume, read_refused}
+use Rattle.kfs_posix.proofs.Fault.{read_refused, read_counts, commit_counts, add_counts, added_same}
 use Rattle.kfs_posix.proofs.Mkdir.{place_fits, mkdir_goes, mkdir_refused, mkdir_unread, mkdir_falls}
-use Rattle.kfs_posix.proofs.Shown.{answers_it}
-
-abbrev Goes : SessionState → Call → Reply → KfsState → Opens → Option Cause → Type 0
-Goes old call reply k1 o d1 = GoesOn old.volume (lines.Call call) (answers.Reply reply) (volume_of k1 o d1)
-
--- the call failed; the device refused nothing
-pub record Denied (old : SessionState) (call : Call) (fault : CoreFault) (reply : Reply) (k1 : KfsState) (o : Opens) (d1 : Option Cause) : Type 0 where
-  pub goes : Goes old call reply k1 o d1
-  pub answerable : IsShowing old.volume → IsAnswerable fault
+use Rattle.kfs_posix.specs.Turning.{Turn, turned}
+use Rattle.kfs_posix.proofs.Turns.{Turns, turned_goes, turned_counts, turned_keeps}
+use Rattle.kfs_posix.proofs.Events.{Happens, Fails, IsPlain, plain, done_plain, rests, idle, fails, answered, failed, low_next, low_count}
 
 -- ---- stat and list
 
@@ -55,70 +49,51 @@ by_names r = r >>= names_ok
 abbrev by_told : Result (ℕ × ℕ × ℕ) Errno → Result Reply Errno
 by_told r = r >>= told_ok
 
-module _ (old : SessionState) (k0 k1 : KfsState) (o : Opens) (d : Option Cause) (is : state_of k0 o d ≡ old) (up : d ≡ None) (rest : Stays k0 k1) where
+module _ (old : SessionState) (k0 k1 : KfsState) (o : Opens) (d : Option Cause) (is : state_of k0 o d ≡ old) (up : d ≡ None) (awake : (tx_in k0).machine.up ≡ true) (rest : Stays k0 k1) where
   abbrev b : Volume
   b = volume_of k0 o d
 
-  -- answered, with all as it was
-  same_goes : (call : Call) (reply : Reply) → tx_in k1 ≡ tx_in k0 → GoesOn b (lines.Call call) (answers.Reply reply) b → Goes old call reply k1 o d
-  same_goes call reply leaves goes =
-      let e : volume_of k1 o d ≡ b = stays_volume k0 k1 o d rest ∙ (λ i. record b { tx = leaves i }) in
-      subst (λ (s : SessionState). GoesOn s.volume (lines.Call call) (answers.Reply reply) (volume_of k1 o d)) is (subst (λ c. GoesOn b (lines.Call call) (answers.Reply reply) c) (sym e) goes)
-
-  -- refused, or down
-  fault_goes : (call : Call) (reply : Reply) (fault : CoreFault) (d1 : Option Cause) → reply ≡ refusal fault → d1 ≡ down_after d fault
-      → Refuses b call fault (record b { tx = tx_in k1; down = down_after d fault }) → Denied old call fault reply k1 o d1
-  fault_goes call reply fault d1 reply_is down refuses = record { goes = goes; answerable = answers_it old k0 o d is up call fault (record b { tx = tx_in k1; down = down_after d fault }) refuses }
-    where
-      goes : Goes old call reply k1 o d1
-      goes =
-          let e : volume_of k1 o d1 ≡ record b { tx = tx_in k1; down = down_after d fault } = ap (λ (k : KfsState). volume_of k o d1) rest ∙ (λ i. record b { tx = tx_in k1; down = down i }) in
-          subst (λ (s : SessionState). GoesOn s.volume (lines.Call call) (answers.Reply reply) (volume_of k1 o d1)) is
-          (subst (λ r. GoesOn b (lines.Call call) (answers.Reply r) (volume_of k1 o d1)) (sym reply_is) (subst (λ c. GoesOn b (lines.Call call) (answers.Reply (refusal fault)) c) (sym e) refuses.goes))
-
-  pub stat_answered : (path : List ℕ) (n kind size : ℕ) (reply : Reply) → found_by (seen (tx_in k0)) path ≡ Ok (n, kind, size) → reply ≡ told_by (n, kind, size) → tx_in k1 ≡ tx_in k0 → Goes old (calls.Stat path) reply k1 o d
-  stat_answered path n kind size reply gives told leaves = same_goes (calls.Stat path) reply leaves
+  pub stat_answered : (path : List ℕ) (n kind size : ℕ) (reply : Reply) → IsPlain reply → found_by (seen (tx_in k0)) path ≡ Ok (n, kind, size) → reply ≡ told_by (n, kind, size) → tx_in k1 ≡ tx_in k0 → Happens old (calls.Stat path) reply k1 o d
+  stat_answered path n kind size reply is_plain gives told leaves = idle old k0 k1 o d is up rest (calls.Stat path) reply is_plain leaves
       (subst (λ r. GoesOn b (lines.Call (calls.Stat path)) (answers.Reply r) b) (sym told) (stat_goes b path (Ok (told_by (n, kind, size))) up (stat_same (seen (tx_in k0)) path ∙ ap by_told gives)))
 
-  pub stat_refused : (path : List ℕ) (reply : Reply) (fault : CoreFault) (d1 : Option Cause) → Fails fault (found_by (seen (tx_in k0)) path) → LeavesAtFault (tx_in k0) fault (tx_in k1) → reply ≡ refusal fault → d1 ≡ down_after d fault → Denied old (calls.Stat path) fault reply k1 o d1
-  stat_refused path reply fault d1 fails leaves reply_is down = fault_goes (calls.Stat path) reply fault d1 reply_is down
-      (read_refused b (calls.Stat path) (stat_in (seen (tx_in k0)) path) fault (tx_in k1) up (by fault fails) leaves (λ w. refl) (λ w. refl) (λ e is. stat_goes b path (Err e) up is))
+  pub stat_refused : (path : List ℕ) (reply : Reply) (fault : CoreFault) (d1 : Option Cause) → GivesFault fault (found_by (seen (tx_in k0)) path) → LeavesAtFault (tx_in k0) fault (tx_in k1) → reply ≡ refusal fault → d1 ≡ down_after d fault → Fails old (calls.Stat path) fault reply k1 o d1
+  stat_refused path reply fault d1 gives leaves reply_is down = fails old k0 k1 o d is up rest (calls.Stat path) fault reply d1 reply_is down (read_counts (tx_in k0) (tx_in k1) fault awake leaves)
+      (read_refused b (calls.Stat path) (stat_in (seen (tx_in k0)) path) fault (tx_in k1) up (by fault gives) leaves (λ w. refl) (λ w. refl) (λ e is. stat_goes b path (Err e) up is))
     where
-      by : (fault : CoreFault) → Fails fault (found_by (seen (tx_in k0)) path) → Fails fault (stat_in (seen (tx_in k0)) path)
+      by : (fault : CoreFault) → GivesFault fault (found_by (seen (tx_in k0)) path) → GivesFault fault (stat_in (seen (tx_in k0)) path)
       by (No e) h = stat_same (seen (tx_in k0)) path ∙ ap by_told h
       by (Device f) h = tt
 
-  pub list_answered : (path : List ℕ) (names : List Name) → k0.keys ≤ 68544 → names_by (seen (tx_in k0)) path ≡ Ok names → tx_in k1 ≡ tx_in k0 → Goes old (calls.List path) (replies.Names names) k1 o d
-  list_answered path names small gives leaves = same_goes (calls.List path) (replies.Names names) leaves
+  pub list_answered : (path : List ℕ) (names : List Name) → k0.keys ≤ 68544 → names_by (seen (tx_in k0)) path ≡ Ok names → tx_in k1 ≡ tx_in k0 → Happens old (calls.List path) (replies.Names names) k1 o d
+  list_answered path names small gives leaves = idle old k0 k1 o d is up rest (calls.List path) (replies.Names names) (plain (λ old new h. h) (λ old new a b. (a, b))) leaves
       (list_goes b path (Ok (replies.Names names)) up (omega arith) (list_same (seen (tx_in k0)) path ∙ ap by_names gives))
 
-  pub list_refused : (path : List ℕ) (reply : Reply) (fault : CoreFault) (d1 : Option Cause) → k0.keys ≤ 68544 → Fails fault (names_by (seen (tx_in k0)) path) → LeavesAtFault (tx_in k0) fault (tx_in k1) → reply ≡ refusal fault → d1 ≡ down_after d fault → Denied old (calls.List path) fault reply k1 o d1
-  list_refused path reply fault d1 small fails leaves reply_is down = fault_goes (calls.List path) reply fault d1 reply_is down
-      (read_refused b (calls.List path) (list_in (seen (tx_in k0)) path) fault (tx_in k1) up (by fault fails) leaves (λ w. refl) (λ w. refl) (λ e is. list_goes b path (Err e) up (omega arith) is))
+  pub list_refused : (path : List ℕ) (reply : Reply) (fault : CoreFault) (d1 : Option Cause) → k0.keys ≤ 68544 → GivesFault fault (names_by (seen (tx_in k0)) path) → LeavesAtFault (tx_in k0) fault (tx_in k1) → reply ≡ refusal fault → d1 ≡ down_after d fault → Fails old (calls.List path) fault reply k1 o d1
+  list_refused path reply fault d1 small gives leaves reply_is down = fails old k0 k1 o d is up rest (calls.List path) fault reply d1 reply_is down (read_counts (tx_in k0) (tx_in k1) fault awake leaves)
+      (read_refused b (calls.List path) (list_in (seen (tx_in k0)) path) fault (tx_in k1) up (by fault gives) leaves (λ w. refl) (λ w. refl) (λ e is. list_goes b path (Err e) up (omega arith) is))
     where
-      by : (fault : CoreFault) → Fails fault (names_by (seen (tx_in k0)) path) → Fails fault (list_in (seen (tx_in k0)) path)
+      by : (fault : CoreFault) → GivesFault fault (names_by (seen (tx_in k0)) path) → GivesFault fault (list_in (seen (tx_in k0)) path)
       by (No e) h = list_same (seen (tx_in k0)) path ∙ ap by_names h
       by (Device f) h = tt
 
   -- ---- sync
 
-  pub commit_answered : (call : Call) → tx_in k1 ≡ committed (tx_in k0) → GoesOn b (lines.Call call) (answers.Reply replies.Done) (record b { tx = committed (tx_in k0) }) → Goes old call replies.Done k1 o d
-  commit_answered call done goes =
-      let e : volume_of k1 o d ≡ record b { tx = committed (tx_in k0) } = stays_volume k0 k1 o d rest ∙ (λ i. record b { tx = done i }) in
-      subst (λ (s : SessionState). GoesOn s.volume (lines.Call call) (answers.Reply replies.Done) (volume_of k1 o d)) is (subst (λ c. GoesOn b (lines.Call call) (answers.Reply replies.Done) c) (sym e) goes)
+  pub commit_answered : (call : Call) → tx_in k1 ≡ committed (tx_in k0) → GoesOn b (lines.Call call) (answers.Reply replies.Done) (record b { tx = committed (tx_in k0) }) → Happens old call replies.Done k1 o d
+  commit_answered call done goes = rests old k0 k1 o d is up rest call replies.Done done_plain (committed (tx_in k0)) (record { up = refl; cuts = refl; faults = refl }) done goes
 
   pub commit_refused : (call : Call) (reply : Reply) (fault : CoreFault) (d1 : Option Cause) → CommitFails (tx_in k0) (tx_in k1) fault → reply ≡ refusal fault → d1 ≡ down_after d fault
-      → ((f : DeviceFault) → CommitFault (tx_in k0) f (tx_in k1).machine → Refuses b call (Device f) (record b { tx = tx_in k1; down = Some (cause_of f) })) → Denied old call fault reply k1 o d1
-  commit_refused call reply fault d1 fails reply_is down falls = fault_goes call reply fault d1 reply_is down (by fault fails)
+      → ((f : DeviceFault) → CommitFault (tx_in k0) f (tx_in k1).machine → Refuses b call (Device f) (record b { tx = tx_in k1; down = Some (cause_of f) })) → Fails old call fault reply k1 o d1
+  commit_refused call reply fault d1 gives reply_is down falls = fails old k0 k1 o d is up rest call fault reply d1 reply_is down (commit_counts (tx_in k0) (tx_in k1) fault awake gives) (by fault gives)
     where
       by : (fault : CoreFault) → CommitFails (tx_in k0) (tx_in k1) fault → Refuses b call fault (record b { tx = tx_in k1; down = down_after d fault })
       by (No e) h = absurd h
       by (Device f) h = falls f h
 
-  pub sync_answered : tx_in k1 ≡ committed (tx_in k0) → Goes old calls.Sync replies.Done k1 o d
+  pub sync_answered : tx_in k1 ≡ committed (tx_in k0) → Happens old calls.Sync replies.Done k1 o d
   sync_answered done = commit_answered calls.Sync done (sync_goes b up)
 
-  pub sync_refused : (reply : Reply) (fault : CoreFault) (d1 : Option Cause) → CommitFails (tx_in k0) (tx_in k1) fault → reply ≡ refusal fault → d1 ≡ down_after d fault → Denied old calls.Sync fault reply k1 o d1
+  pub sync_refused : (reply : Reply) (fault : CoreFault) (d1 : Option Cause) → CommitFails (tx_in k0) (tx_in k1) fault → reply ≡ refusal fault → d1 ≡ down_after d fault → Fails old calls.Sync fault reply k1 o d1
   sync_refused reply fault d1 fails reply_is down = commit_refused calls.Sync reply fault d1 fails reply_is down (λ f h. sync_falls b (record b { tx = tx_in k1; down = Some (cause_of f) }) f up refl refl h)
 
   -- ---- fsync
@@ -128,38 +103,34 @@ module _ (old : SessionState) (k0 k1 : KfsState) (o : Opens) (d : Option Cause) 
       ap (λ desk. settled live.world (or_else (opened desk fd) EBADF >>= λ it. answered_by live.world replies.Done)) sh.desk
       ∙ ap (λ x. settled live.world (or_else x EBADF >>= λ it. answered_by live.world replies.Done)) (opened_same o fd ∙ ap (option_map described) (sym e))
 
-  pub fsync_answered : (fd : ℕ) (it : ℕ × OpenFile) → Some it ≡ open_at o fd → tx_in k1 ≡ committed (tx_in k0) → Goes old (calls.Fsync fd) replies.Done k1 o d
+  pub fsync_answered : (fd : ℕ) (it : ℕ × OpenFile) → Some it ≡ open_at o fd → tx_in k1 ≡ committed (tx_in k0) → Happens old (calls.Fsync fd) replies.Done k1 o d
   fsync_answered fd it e done = commit_answered (calls.Fsync fd) done (commit_goes b (calls.Fsync fd) up (λ w. refl) refl (fsync_did fd it e))
 
-  pub fsync_refused : (fd : ℕ) (it : ℕ × OpenFile) → Some it ≡ open_at o fd → (reply : Reply) (fault : CoreFault) (d1 : Option Cause) → CommitFails (tx_in k0) (tx_in k1) fault → reply ≡ refusal fault → d1 ≡ down_after d fault → Denied old (calls.Fsync fd) fault reply k1 o d1
+  pub fsync_refused : (fd : ℕ) (it : ℕ × OpenFile) → Some it ≡ open_at o fd → (reply : Reply) (fault : CoreFault) (d1 : Option Cause) → CommitFails (tx_in k0) (tx_in k1) fault → reply ≡ refusal fault → d1 ≡ down_after d fault → Fails old (calls.Fsync fd) fault reply k1 o d1
   fsync_refused fd it e reply fault d1 fails reply_is down = commit_refused (calls.Fsync fd) reply fault d1 fails reply_is down
       (λ f h. commit_falls_in b (record b { tx = tx_in k1; down = Some (cause_of f) }) (calls.Fsync fd) f up refl refl (λ w. refl) refl (λ w cause. any_cause w (calls.Fsync fd) refl refl refl cause) (fsync_did fd it e) h)
 
 -- ---- mkdir
 
-module _ (old : SessionState) (k0 k1 : KfsState) (o : Opens) (d : Option Cause) (is : state_of k0 o d ≡ old) (up : d ≡ None) (age : age_of (running_in old) < 2 ^ 63 - 2 ^ 40) (keys : k1.keys ≡ k0.keys) (pages : k1.pages ≡ k0.pages) (chunks : k1.chunks ≡ k0.chunks) (path : List ℕ) where
+module _ (old : SessionState) (k0 k1 : KfsState) (o : Opens) (d : Option Cause) (is : state_of k0 o d ≡ old) (up : d ≡ None) (awake : (tx_in k0).machine.up ≡ true) (age : IsYoung old) (keys : k1.keys ≡ k0.keys) (pages : k1.pages ≡ k0.pages) (chunks : k1.chunks ≡ k0.chunks) (path : List ℕ) where
   abbrev volume : Volume
   volume = volume_of k0 o d
 
   low : (tx_in k0).next + 1 < 2 ^ 63
-  low = let a : age_of (running_in (state_of k0 o d)) < 2 ^ 63 - 2 ^ 40 = subst (λ s. age_of (running_in s) < 2 ^ 63 - 2 ^ 40) (sym is) age in omega arith
+  low = low_next old k0 o d is age
 
   few : (tx_in k0).changes + 1 < 2 ^ 63
-  few = let a : age_of (running_in (state_of k0 o d)) < 2 ^ 63 - 2 ^ 40 = subst (λ s. age_of (running_in s) < 2 ^ 63 - 2 ^ 40) (sym is) age in omega arith
+  few = low_count old k0 o d is age
 
-  pub mkdir_answered : (w : Where) → place_in (seen (tx_in k0)) k0.keys k0.charge path ≡ Ok w → tx_in k1 ≡ made (tx_in k0) (parent_of w) w.name → k1.charge ≡ k0.charge + 2 → Goes old (calls.Mkdir path) replies.Done k1 o d
+  pub mkdir_answered : (w : Where) → place_in (seen (tx_in k0)) k0.keys k0.charge path ≡ Ok w → tx_in k1 ≡ made (tx_in k0) (parent_of w) w.name → k1.charge ≡ k0.charge + 2 → Happens old (calls.Mkdir path) replies.Done k1 o d
   mkdir_answered w judged done charge =
-      subst (λ (s : SessionState). GoesOn s.volume (lines.Call (calls.Mkdir path)) (answers.Reply replies.Done) (volume_of k1 o d)) is
-      (subst (λ c. GoesOn volume (lines.Call (calls.Mkdir path)) (answers.Reply replies.Done) c) (λ i. record { tx = sym done i; keys = sym keys i; pages = sym pages i; charge = sym charge i; chunks = sym chunks i; files = o; down = d })
-      (mkdir_goes volume path w up low few (place_fits (seen (tx_in k0)) k0.keys k0.charge path w judged) judged))
+      answered old k0 k1 o o d is up (calls.Mkdir path) replies.Done done_plain (made (tx_in k0) (parent_of w) w.name) (k0.charge + 2) k0.chunks o (added_same (tx_in k0) 1 (parent_of w) w.name) done charge chunks keys pages refl
+      (mkdir_goes volume path w up low few (place_fits (seen (tx_in k0)) k0.keys k0.charge path w judged) judged)
 
-  pub mkdir_not_made : (reply : Reply) (fault : CoreFault) (d1 : Option Cause) → MkdirFails (tx_in k0) (place_in (seen (tx_in k0)) k0.keys k0.charge path) fault (tx_in k1) → k1.charge ≡ k0.charge → reply ≡ refusal fault → d1 ≡ down_after d fault → Denied old (calls.Mkdir path) fault reply k1 o d1
-  mkdir_not_made reply fault d1 fails charge reply_is down = record {
-    goes = subst (λ (s : SessionState). GoesOn s.volume (lines.Call (calls.Mkdir path)) (answers.Reply reply) (volume_of k1 o d1)) is
-        (subst (λ r. GoesOn volume (lines.Call (calls.Mkdir path)) (answers.Reply r) (volume_of k1 o d1)) (sym reply_is)
-        (subst (λ c. GoesOn volume (lines.Call (calls.Mkdir path)) (answers.Reply (refusal fault)) c) (λ i. record { tx = tx_in k1; keys = sym keys i; pages = sym pages i; charge = sym charge i; chunks = sym chunks i; files = o; down = sym down i }) (by fault fails).goes));
-    answerable = answers_it old k0 o d is up (calls.Mkdir path) fault (record volume { tx = tx_in k1; down = down_after d fault }) (by fault fails);
-  }
+  pub mkdir_not_made : (reply : Reply) (fault : CoreFault) (d1 : Option Cause) → MkdirFails (tx_in k0) (place_in (seen (tx_in k0)) k0.keys k0.charge path) fault (tx_in k1) → k1.charge ≡ k0.charge → reply ≡ refusal fault → d1 ≡ down_after d fault → Fails old (calls.Mkdir path) fault reply k1 o d1
+  mkdir_not_made reply fault d1 gives charge reply_is down =
+      failed old k0 k1 o o d is up (calls.Mkdir path) fault reply d1 reply_is down charge chunks keys pages refl
+      (add_counts (tx_in k0) (tx_in k1) 1 (place_in (seen (tx_in k0)) k0.keys k0.charge path) fault awake gives) (by fault gives)
     where
       by : (fault : CoreFault) → MkdirFails (tx_in k0) (place_in (seen (tx_in k0)) k0.keys k0.charge path) fault (tx_in k1) → Refuses volume (calls.Mkdir path) fault (record volume { tx = tx_in k1; down = down_after d fault })
       by (No e) h = errs volume (record volume { tx = tx_in k1 }) (calls.Mkdir path) e (subst (λ r. GoesOn volume (lines.Call (calls.Mkdir path)) (answers.Reply (replies.Err e)) (record volume { tx = r })) (sym h.1) (mkdir_refused volume path e up h.0))
@@ -184,7 +155,31 @@ pub aged_by : (old : SessionState) (k0 k1 : KfsState) (o : Opens) (d : Option Ca
 aged_by old k0 k1 o d n most is aged = subst (λ (s : SessionState). Aged (running_in s) k1.running (2 ^ 38)) is
     (record { device = record { later = aged.device.later; bounded = let h = aged.device.bounded in omega arith }; whole = record { later = aged.whole.later; bounded = let h = aged.whole.bounded in omega arith } })
 
-pub age_in : (old : SessionState) (k0 : KfsState) (o : Opens) (d : Option Cause) → state_of k0 o d ≡ old → age_of (running_in old) < 2 ^ 63 - 2 ^ 40 → age_of k0.running < 2 ^ 63 - 2 ^ 39
+pub off_answers : (old : SessionState) (k0 : KfsState) (o : Opens) (d : Option Cause) (call : Call) → state_of k0 o d ≡ old → true ≡ is_some d → Answers old call replies.Off old
+off_answers old k0 o d call is down = record { goes_on = off_goes old k0 o d call is down; counts = (refl, refl); room = refl; down = off_keeps old k0 o d is down; age = aged_none _ }
+
+-- ---- what a call says, as one record
+
+pub answers_of : (old : SessionState) (k0 k1 : KfsState) (o o1 : Opens) (d d1 : Option Cause) (call : Call) (reply : Reply) (n : ℕ) → n ≤ 2 ^ 38 → state_of k0 o d ≡ old → Aged k0.running k1.running n → Happens old call reply k1 o1 d1 → Answers old call reply (state_of k1 o1 d1)
+answers_of old k0 k1 o o1 d d1 call reply n most is aged happens = record { goes_on = happens.goes; counts = happens.counts; room = happens.room; down = happens.keeps; age = aged_by old k0 k1 o d n most is aged }
+
+pub turned_answers : (old : SessionState) (k0 : KfsState) (o o1 : Opens) (d : Option Cause) (is : state_of k0 o d ≡ old) (up : d ≡ None) (call : Call) (reply : Reply) (r : Result Turn Errno) (turns : Turns o call r) (done : record { files = o1; reply = reply } ≡ turned o r) → Answers old call reply (state_of k0 o1 d)
+turned_answers old k0 o o1 d is up call reply r turns done =
+    answers_of old k0 k0 o o1 d d call reply (2 ^ 38) (omega arith) is (aged_none _) (record {
+      goes = turned_goes old k0 o o1 d is up call reply r turns done;
+      counts = turned_counts old k0 o o1 d is up call reply r turns done;
+      keeps = turned_keeps old k0 o o1 d is up call reply r turns done;
+      room = ap (λ (s : SessionState). limits_of s.volume) is;
+    })
+
+-- the same of another call
+pub named_answers : (old new : SessionState) (k j : Call) (reply : Reply) → k ≡ j → Answers old k reply new → Answers old j reply new
+named_answers old new k j reply e answers = subst (λ k. Answers old k reply new) e answers
+
+pub goes_answers : (old new : SessionState) (k j : Call) (reply : Reply) → GoesOn old.volume (lines.Call j) (answers.Reply reply) new.volume → Answers old k reply new → Answers old j reply new
+goes_answers old new k j reply goes known = record { goes_on = goes; counts = known.counts; room = known.room; down = known.down; age = known.age }
+
+pub age_in : (old : SessionState) (k0 : KfsState) (o : Opens) (d : Option Cause) → state_of k0 o d ≡ old → IsYoung old → age_of k0.running < 2 ^ 63 - 2 ^ 39
 age_in old k0 o d is age = let a : age_of k0.running < 2 ^ 63 - 2 ^ 40 = subst (λ (s : SessionState). age_of (running_in s) < 2 ^ 63 - 2 ^ 40) (sym is) age in omega arith
 
 pub keys_in : (old : SessionState) (k0 : KfsState) (o : Opens) (d : Option Cause) → state_of k0 o d ≡ old → old.volume.keys ≤ 68544 → k0.keys ≤ 68544
@@ -198,13 +193,18 @@ room_goes b up = idle_goes b calls.Room (replies.Room b.charge b.keys b.chunks b
 pub room_answered : (old : SessionState) (k0 : KfsState) (o : Opens) (d : Option Cause) (reply : Reply) → state_of k0 o d ≡ old → d ≡ None → reply ≡ replies.Room k0.charge k0.keys k0.chunks k0.pages → GoesOn old.volume (lines.Call calls.Room) (answers.Reply reply) old.volume
 room_answered old k0 o d reply is up e = subst (λ (s : SessionState). GoesOn s.volume (lines.Call calls.Room) (answers.Reply reply) s.volume) is (subst (λ r. GoesOn (volume_of k0 o d) (lines.Call calls.Room) (answers.Reply r) (volume_of k0 o d)) (sym e) (room_goes (volume_of k0 o d) up))
 
-pub room_quiet : (old : SessionState) (k0 : KfsState) (o : Opens) (d : Option Cause) (reply : Reply) → state_of k0 o d ≡ old → d ≡ None → reply ≡ replies.Room k0.charge k0.keys k0.chunks k0.pages → Counts old.volume.tx.machine reply old.volume.tx.machine × KeepsCause old.volume reply old.volume
+pub room_quiet : (old : SessionState) (k0 : KfsState) (o : Opens) (d : Option Cause) (reply : Reply) → state_of k0 o d ≡ old → d ≡ None → reply ≡ replies.Room k0.charge k0.keys k0.chunks k0.pages → CountsFaults old.volume.tx.machine reply old.volume.tx.machine × KeepsCause old.volume reply old.volume
 room_quiet old k0 o d reply is up e =
     let none : old.volume.down ≡ None = sym (ap (λ (s : SessionState). s.volume.down) is) ∙ up in
-    subst (λ r. Counts old.volume.tx.machine r old.volume.tx.machine × KeepsCause old.volume r old.volume) (sym e) ((refl, refl), (none, none))
+    subst (λ r. CountsFaults old.volume.tx.machine r old.volume.tx.machine × KeepsCause old.volume r old.volume) (sym e) ((refl, refl), (none, none))
+
+pub room_answers : (old : SessionState) (k0 : KfsState) (o : Opens) (d : Option Cause) (reply : Reply) → state_of k0 o d ≡ old → d ≡ None → reply ≡ replies.Room k0.charge k0.keys k0.chunks k0.pages → Answers old calls.Room reply old
+room_answers old k0 o d reply is up e =
+    let quiet = room_quiet old k0 o d reply is up e in
+    record { goes_on = room_answered old k0 o d reply is up e; counts = quiet.0; room = refl; down = quiet.1; age = aged_none _ }
 
 -- a descriptor that isn't open
-pub fsync_bad : (old : SessionState) (k0 : KfsState) (o : Opens) (d : Option Cause) (fd : ℕ) → state_of k0 o d ≡ old → d ≡ None → None ≡ open_at o fd → GoesOn old.volume (lines.Call (calls.Fsync fd)) (answers.Reply (replies.Err EBADF)) old.volume
+fsync_bad : (old : SessionState) (k0 : KfsState) (o : Opens) (d : Option Cause) (fd : ℕ) → state_of k0 o d ≡ old → d ≡ None → None ≡ open_at o fd → GoesOn old.volume (lines.Call (calls.Fsync fd)) (answers.Reply (replies.Err EBADF)) old.volume
 fsync_bad old k0 o d fd is up e =
     let b = volume_of k0 o d in
     subst (λ (s : SessionState). GoesOn s.volume (lines.Call (calls.Fsync fd)) (answers.Reply (replies.Err EBADF)) s.volume) is
@@ -212,15 +212,21 @@ fsync_bad old k0 o d fd is up e =
     ap (λ desk. settled live.world (or_else (opened desk fd) EBADF >>= λ it. answered_by live.world replies.Done)) sh.desk
     ∙ ap (λ x. settled live.world (or_else x EBADF >>= λ it. answered_by live.world replies.Done)) (opened_same o fd ∙ ap (option_map described) (sym e))))
 
+pub fsync_denied : (old : SessionState) (k0 : KfsState) (o : Opens) (d : Option Cause) (fd : ℕ) → state_of k0 o d ≡ old → d ≡ None → None ≡ open_at o fd → Answers old (calls.Fsync fd) (replies.Err EBADF) old
+fsync_denied old k0 o d fd is up e =
+    let none : old.volume.down ≡ None = sym (ap (λ (s : SessionState). s.volume.down) is) ∙ up in
+    record { goes_on = fsync_bad old k0 o d fd is up e; counts = (refl, refl); room = refl; down = (none, none); age = aged_none _ }
+
 -- ---- what is told of a node
+
+pub dir_plain : (n : ℕ) → IsPlain (replies.Dir n)
+dir_plain n = plain (λ old new h. h) (λ old new a b. (a, b))
+
+pub file_plain : (n size : ℕ) → IsPlain (replies.File n size)
+file_plain n size = plain (λ old new h. h) (λ old new a b. (a, b))
 
 pub told_dir : (n kind size : ℕ) → kind ≡ 1 → replies.Dir n ≡ told_by (n, kind, size)
 told_dir n kind size e = let t : (kind == 1) ≡ true = grind (arith, nat_tests) in ap (λ b. cond b (replies.Dir n) (replies.File n size)) (sym t)
 
 pub told_file : (n kind size : ℕ) → kind ≢ 1 → replies.File n size ≡ told_by (n, kind, size)
 told_file n kind size e = let t : (kind == 1) ≡ false = grind (arith, nat_tests) in ap (λ b. cond b (replies.Dir n) (replies.File n size)) (sym t)
-
--- ---- the call that is named
-
-pub named_goes : (old new : Volume) (k j : Call) (reply : Reply) → k ≡ j → GoesOn old (lines.Call k) (answers.Reply reply) new → GoesOn old (lines.Call j) (answers.Reply reply) new
-named_goes old new k j reply e goes = subst (λ k. GoesOn old (lines.Call k) (answers.Reply reply) new) e goes

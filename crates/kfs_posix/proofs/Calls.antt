@@ -33,7 +33,7 @@ use Rattle.kfs_core.proofs.Children.{list_same}
 use Rattle.kfs_core.proofs.Small.{commit_small}
 use Rattle.kfs_posix.specs.Volume.{Volume, limits_of, cause_of}
 use Rattle.kfs_posix.specs.Showing.{ShowsLive, IsWhole, GoesOn}
-use Rattle.kfs_posix.proofs.Rooms.{named_fits}
+use Rattle.kfs_posix.proofs.Rooms.{named_fits, both_true}
 use Rattle.kfs_posix.proofs.Going.{spare, spare_free, as_before, as_synced, idle_goes, fall_goes, up_goes, answered, Refuses}
 use Rattle.kfs_core.specs.declared.fault.CoreFault.TheVariants.{Device}
 
@@ -115,10 +115,6 @@ commit_goes old call up none does did = up_goes old (record old { tx = committed
 
 pub sync_goes : (old : Volume) → old.down ≡ None → GoesOn old (lines.Call calls.Sync) (answers.Reply replies.Done) (record old { tx = committed old.tx })
 sync_goes old up = commit_goes old calls.Sync up (λ w. refl) refl (λ live sh. refl)
-
-both_true : (a b : Bool) → (a && b) ≡ true → (a ≡ true) × (b ≡ true)
-both_true true b e = (refl, e)
-both_true false b e = absurd (cc)
 
 -- what shows a tree with room has room on the device
 pub room_for : (m : Objects) (t : Tree) (n : ℕ) (k : Limits) (d : Machine) → IsTree t → Shows m t n → t.next ≤ 2 ^ 63 → has_room k t ≡ true → k.keys ≡ d.room_keys → k.pages ≡ d.room_pages → fits_device d m ≡ true

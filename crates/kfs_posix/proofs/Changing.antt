@@ -34,7 +34,7 @@ pub record IsPut (b : Volume) (r : Tx) (t : Tree) (n next : ℕ) : Type 0 where
   pub few : changed_keys r + 1 ≤ b.tx.weight + n
   pub room : has_room (limits_of b) t ≡ true
 
-or_false : (a b : Bool) → (a || b) ≡ false → (a ≡ false) × (b ≡ false)
+pub or_false : (a b : Bool) → (a || b) ≡ false → (a ≡ false) × (b ≡ false)
 or_false true b e = absurd (cc)
 or_false false b e = (refl, e)
 

@@ -10,7 +10,7 @@ use Rattle.kfs_path.specs.declared.call.Reply.{Reply}
 use Rattle.kfs_path.specs.declared.call.Reply.TheVariants as replies
 use Rattle.kfs_model.specs.declared.Line.TheVariants as lines
 use Rattle.kfs_model.specs.declared.Answer.TheVariants as answers
-use Rattle.kfs_tx.specs.Tx.{Tx, age_of, seen, deleted_in, one_change}
+use Rattle.kfs_tx.specs.Tx.{Tx, seen, deleted_in, one_change}
 use Rattle.kfs_core.specs.declared.fault.CoreFault.{CoreFault}
 use Rattle.kfs_core.specs.declared.fault.CoreFault.TheVariants.{No, Device}
 use Rattle.kfs_core.specs.Core.{KfsState, tx_in}
@@ -18,30 +18,30 @@ use Rattle.kfs_core.specs.Flat.{inode_in}
 use Rattle.kfs_core.specs.Removing.{chunks_for, release_at, ReleaseFails}
 use Rattle.kfs_posix.specs.Opens.{Opens, closed}
 use Rattle.kfs_posix.specs.Closing.{remains, Closes, Closed, NotReleased, CloseDoes}
-use Rattle.kfs_posix.specs.Volume.{Volume, SessionState, state_of, volume_of, running_in, limits_of}
-use Rattle.kfs_posix.specs.Answering.{Counts, KeepsCause, refusal, down_after}
+use Rattle.kfs_posix.specs.Volume.{Volume, SessionState, state_of, volume_of, limits_of}
+use Rattle.kfs_posix.specs.Answering.{IsYoung, CountsFaults, KeepsCause, refusal, down_after}
 use Rattle.kfs_posix.specs.Showing.{GoesOn}
 use Rattle.kfs_posix.proofs.Fault.{caused_counts, alone_caused, refused_keeps}
-use Rattle.kfs_posix.proofs.Events.{Happens, same_machine, answered, failed, low_count, Fails}
+use Rattle.kfs_posix.proofs.Events.{Happens, same_machine, answered, failed, low_count, Fails, done_plain}
 use Rattle.kfs_posix.proofs.Planned.{changed_same}
-use Rattle.kfs_posix.proofs.UnnameAnswers.{done_plain}
 use Rattle.kfs_posix.proofs.CloseGoes.{close_bad, close_goes, release_goes, release_falls, release_unread, release_never, released_same, release_caused}
 use Rattle.kfs_posix.proofs.Going.{Refuses, errs}
 use Rattle.kfs_posix.proofs.Shown.{answers_it}
 
 -- a call that went wrong after the open files had changed
 shut_by : (old : SessionState) (k0 k1 : KfsState) (o o1 : Opens) (d : Option Cause) → state_of k0 o d ≡ old → d ≡ None → (call : Call) (fault : CoreFault) (reply : Reply) (d1 : Option Cause) → reply ≡ refusal fault → d1 ≡ down_after d fault
-    → Counts (tx_in k0).machine (refusal fault) (tx_in k1).machine → Refuses (volume_of k0 o d) call fault (volume_of k1 o1 d1) → Fails old call fault reply k1 o1 d1
-shut_by old k0 k1 o o1 d is up call fault reply d1 reply_is down counts refuses = record {
+    → limits_of (volume_of k1 o1 d1) ≡ limits_of (volume_of k0 o d) → CountsFaults (tx_in k0).machine (refusal fault) (tx_in k1).machine → Refuses (volume_of k0 o d) call fault (volume_of k1 o1 d1) → Fails old call fault reply k1 o1 d1
+shut_by old k0 k1 o o1 d is up call fault reply d1 reply_is down room counts refuses = record {
   happens = record {
     goes = subst (λ (s : SessionState). GoesOn s.volume (lines.Call call) (answers.Reply reply) (volume_of k1 o1 d1)) is (subst (λ r. GoesOn (volume_of k0 o d) (lines.Call call) (answers.Reply r) (volume_of k1 o1 d1)) (sym reply_is) refuses.goes);
-    counts = subst (λ (s : SessionState). Counts s.volume.tx.machine reply (tx_in k1).machine) is (subst (λ r. Counts (tx_in k0).machine r (tx_in k1).machine) (sym reply_is) counts);
+    counts = subst (λ (s : SessionState). CountsFaults s.volume.tx.machine reply (tx_in k1).machine) is (subst (λ r. CountsFaults (tx_in k0).machine r (tx_in k1).machine) (sym reply_is) counts);
     keeps = subst (λ (s : SessionState). KeepsCause s.volume reply (volume_of k1 o1 d1)) is (subst (λ r. KeepsCause (volume_of k0 o d) r (volume_of k1 o1 d1)) (sym reply_is) (refused_keeps (volume_of k0 o d) (volume_of k1 o1 d1) fault up down));
+    room = room ∙ ap (λ (s : SessionState). limits_of s.volume) is;
   };
   answerable = answers_it old k0 o d is up call fault (volume_of k1 o1 d1) refuses;
 }
 
-module _ (old : SessionState) (k0 k1 : KfsState) (o o1 : Opens) (d : Option Cause) (is : state_of k0 o d ≡ old) (up : d ≡ None) (awake : (tx_in k0).machine.up ≡ true) (age : age_of (running_in old) < 2 ^ 63 - 2 ^ 40) (fd : ℕ) where
+module _ (old : SessionState) (k0 k1 : KfsState) (o o1 : Opens) (d : Option Cause) (is : state_of k0 o d ≡ old) (up : d ≡ None) (awake : (tx_in k0).machine.up ≡ true) (age : IsYoung old) (fd : ℕ) where
   abbrev b : Volume
   b = volume_of k0 o d
 
@@ -71,15 +71,15 @@ module _ (old : SessionState) (k0 k1 : KfsState) (o o1 : Opens) (d : Option Caus
       happens : (fault : CoreFault) → ReleaseFails k0 h.it.1.it.node (release_at (inode_in (seen (tx_in k0)) h.it.1.it.node)) fault k1 → reply ≡ refusal fault → d1 ≡ down_after d fault → Fails old call fault reply k1 o1 d1
       happens (No e) (judged, same) reply_is down =
           let machine = ap (λ (k : KfsState). (tx_in k).machine) same in
-          shut_by old k0 k1 o o1 d is up call (No e) reply d1 reply_is down
+          shut_by old k0 k1 o o1 d is up call (No e) reply d1 reply_is down (ap (λ (k : KfsState). limits_of (volume_of k o d)) same)
           (ap (λ (m : Machine). m.cuts) machine, ap (λ (m : Machine). m.faults) machine)
           (errs b (volume_of k1 o1 d1) call e (release_never b fd up h.it h.at h.goes (volume_of k1 o1 d1) e (refusal (No e)) judged))
       happens (Device f) (stays, inl unread) reply_is down =
-          shut_by old k0 k1 o o1 d is up call (Device f) reply d1 reply_is down
+          shut_by old k0 k1 o o1 d is up call (Device f) reply d1 reply_is down (ap (λ (k : KfsState). limits_of (volume_of k o d)) stays)
           (caused_counts (tx_in k0).machine f (tx_in k1).machine awake (alone_caused (tx_in k0).machine f (tx_in k1).machine unread.1))
           (release_unread b fd up h.it h.at h.goes (volume_of k1 o1 d1) f down (ap (λ (k : KfsState). limits_of (volume_of k o d)) stays) unread)
       happens (Device f) (stays, inr (size, judged, fell)) reply_is down =
-          shut_by old k0 k1 o o1 d is up call (Device f) reply d1 reply_is down
+          shut_by old k0 k1 o o1 d is up call (Device f) reply d1 reply_is down (ap (λ (k : KfsState). limits_of (volume_of k o d)) stays)
           (caused_counts (tx_in k0).machine f (tx_in k1).machine awake (release_caused (tx_in k0) h.it.1.it.node size f (tx_in k1).machine fell))
           (release_falls b fd up h.it h.at h.goes (low_count old k0 o d is age) (volume_of k1 o1 d1) size f judged down (ap (λ (k : KfsState). limits_of (volume_of k o d)) stays) fell)
 

@@ -55,6 +55,7 @@ use Rattle.kfs_posix.proofs.Calls.{stands_of}
 use Rattle.kfs_posix.proofs.Planned.{Planned, world_shown, planned_goes, planned_falls, early_falls, unread_at, change_caused}
 use Rattle.kfs_posix.proofs.Unnaming.{both_of, below_none, open_is, swept_kept, swept_knows}
 use Rattle.kfs_core.specs.declared.fault.CoreFault.TheVariants.{Device}
+use Rattle.kfs_posix.proofs.Changing.{or_false}
 
 -- an entry that passes a test is found
 any_find : {X : Type 0} (p : X → Bool) (es : List (ℕ × X)) → T (is_sorted nat_cmp es) → list_any (λ e. p e.1) es ≡ true → (d : ℕ) × (x : X) × (find nat_cmp d es ≡ Some x) × (p x ≡ true)
@@ -126,10 +127,6 @@ module _ (t : Tree) (o : Opens) (fd : ℕ) (it : ℕ × OpenFile) (holds : Holds
         ap (is_open (desk_of left)) is ∙ sym (ap (λ b. b || is_open (desk_of left) it.1.it.node) no) ∙ stays
     | inr apart ↦ others_open n apart (holds.kept n node there none)
   ])
-
-or_false : (a b : Bool) → (a || b) ≡ false → (a ≡ false) × (b ≡ false)
-or_false true b e = absurd (cc)
-or_false false b e = (refl, e)
 
 -- a tree that stays has no weight
 same_weight : (fd : ℕ) (w : World) (desk : Desk) (reply : Reply) → weight w (calls.Close fd) (record { world = record { tree = w.tree; desk = desk }; reply = reply }) ≡ None

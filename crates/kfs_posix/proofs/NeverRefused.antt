@@ -43,13 +43,13 @@ reading k new o files live (No e) serves h = tt
 reading k new o files live (Device f) serves h = outside_of (tx_in k).machine (tx_in new).machine f (get_falls (tx_in k) f (tx_in new).machine serves.shows.light.ready h).cause
 
 pub committing : Refusals.CommittingIsNeverRefused
-committing k new o files live fault serves h = (sync_refused (state_of k o None) k (run_alone k new) o None refl refl refl (refusal fault) fault (down_after None fault) h refl refl).answerable (shown k o live serves)
+committing k new o files live fault serves h = (sync_refused (state_of k o None) k (run_alone k new) o None refl refl serves.shows.light.ready.up refl (refusal fault) fault (down_after None fault) h refl refl).answerable (shown k o live serves)
 
 pub working : Refusals.WorkingIsNeverRefused
 working k new o files live fault serves h = (work_failed (state_of k o None) k (run_alone k new) o None refl refl serves.shows.light.ready.up refl 0 fault (refusal fault) (down_after None fault) h refl refl).answerable (shown k o live serves)
 
 pub mkdir : Refusals.MkdirIsNeverRefused
-mkdir path k new o files live fault serves h = (mkdir_not_made (state_of k o None) k (run_alone k new) o None refl refl serves.age refl refl refl path (refusal fault) fault (down_after None fault) h refl refl refl).answerable (shown k o live serves)
+mkdir path k new o files live fault serves h = (mkdir_not_made (state_of k o None) k (run_alone k new) o None refl refl serves.shows.light.ready.up serves.age refl refl refl path (refusal fault) fault (down_after None fault) h refl refl refl).answerable (shown k o live serves)
 
 pub opening : Refusals.OpeningIsNeverRefused
 opening path flags k new o files live fault serves h = (open_failed (state_of k o None) k (record new { keys = k.keys; pages = k.pages }) o files None refl refl serves.shows.light.ready.up serves.age refl refl path flags fault (refusal fault) (down_after None fault) (at fault h) refl refl).answerable (shown k o live serves)

@@ -11,7 +11,7 @@ use Rattle.kfs_path.specs.declared.call.Reply.{Reply}
 use Rattle.kfs_path.specs.declared.call.Reply.TheVariants as replies
 use Rattle.kfs_model.specs.declared.Line.TheVariants as lines
 use Rattle.kfs_model.specs.declared.Answer.TheVariants as answers
-use Rattle.kfs_tx.specs.Tx.{Tx, age_of, seen, one_change}
+use Rattle.kfs_tx.specs.Tx.{Tx, seen, one_change}
 use Rattle.kfs_core.specs.declared.fault.CoreFault.{CoreFault}
 use Rattle.kfs_core.specs.declared.fault.CoreFault.TheVariants.{No, Device}
 use Rattle.kfs_core.specs.Core.{KfsState, tx_in}
@@ -21,8 +21,8 @@ use Rattle.kfs_core.specs.Resizing.{ResizesTo, resize_weight}
 use Rattle.kfs_core.specs.Room.{space_in}
 use Rattle.kfs_posix.specs.Opens.{Opens, opened_as}
 use Rattle.kfs_posix.specs.Opening.{Opening, New, There, Cut, opened_file, open_in, OpenDoes}
-use Rattle.kfs_posix.specs.Volume.{Volume, SessionState, state_of, volume_of, running_in, cause_of}
-use Rattle.kfs_posix.specs.Answering.{refusal, down_after}
+use Rattle.kfs_posix.specs.Volume.{Volume, SessionState, state_of, volume_of, cause_of}
+use Rattle.kfs_posix.specs.Answering.{IsYoung, refusal, down_after}
 use Rattle.kfs_posix.specs.Showing.{GoesOn}
 use Rattle.kfs_posix.proofs.Fault.{added_same, make_caused, caused_counts, alone_caused}
 use Rattle.kfs_posix.proofs.Events.{Happens, IsPlain, plain, same_machine, answered, failed, low_next, low_count, Fails}
@@ -35,7 +35,7 @@ use Rattle.kfs_posix.proofs.ResizeGoes.{length_same, length_rests, length_goes, 
 pub number_plain : (n : ℕ) → IsPlain (replies.Number n)
 number_plain n = plain (λ old new h. h) (λ old new a b. (a, b))
 
-module _ (old : SessionState) (k0 k1 : KfsState) (o o1 : Opens) (d : Option Cause) (is : state_of k0 o d ≡ old) (up : d ≡ None) (awake : (tx_in k0).machine.up ≡ true) (age : age_of (running_in old) < 2 ^ 63 - 2 ^ 40) (keys : k1.keys ≡ k0.keys) (pages : k1.pages ≡ k0.pages)
+module _ (old : SessionState) (k0 k1 : KfsState) (o o1 : Opens) (d : Option Cause) (is : state_of k0 o d ≡ old) (up : d ≡ None) (awake : (tx_in k0).machine.up ≡ true) (age : IsYoung old) (keys : k1.keys ≡ k0.keys) (pages : k1.pages ≡ k0.pages)
     (path : List ℕ) (flags : Flags) where
   abbrev b : Volume
   b = volume_of k0 o d

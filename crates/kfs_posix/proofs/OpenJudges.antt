@@ -37,6 +37,7 @@ use Rattle.kfs_posix.specs.Holding.{Holds, Knows}
 use Rattle.kfs_posix.specs.Opening.{Opening, New, There, Cut, opened_file, is_contrary, there_in, open_there_in, open_new_in, open_found, open_at_in, open_in}
 use Rattle.kfs_posix.proofs.Maps.{put-map, find-map}
 use Rattle.kfs_posix.proofs.Held.{world_in, description, put_open}
+use Rattle.kfs_posix.proofs.Rooms.{both_true}
 
 -- ---- what is open afterwards
 
@@ -70,10 +71,6 @@ fresh_knows t place flags = record {
 -- the room that a tree takes
 abbrev pub space_for : Limits → Tree → Space
 space_for k t = record { keys = k.keys; pages = k.pages; charge = charge t; chunks = chunks t }
-
-both_true : (a b : Bool) → (a && b) ≡ true → (a ≡ true) × (b ≡ true)
-both_true true b e = (refl, e)
-both_true false b e = absurd (cc)
 
 -- a file may always be cut to no bytes
 pub cut_fits : (k : Limits) (t : Tree) → has_room k t ≡ true → (was : ℕ) → resized_fits (space_for k t) was 0 ≡ true

@@ -12,7 +12,7 @@ use Rattle.kfs_model.specs.Ladder.{◌>>=◌}
 use Rattle.kfs_model.specs.Step.{Route, syntax}
 use Rattle.kfs_model.specs.declared.Line.TheVariants as lines
 use Rattle.kfs_model.specs.declared.Answer.TheVariants as answers
-use Rattle.kfs_tx.specs.Tx.{Tx, age_of, seen, one_change}
+use Rattle.kfs_tx.specs.Tx.{Tx, seen, one_change}
 use Rattle.kfs_core.specs.declared.fault.CoreFault.{CoreFault}
 use Rattle.kfs_core.specs.declared.fault.CoreFault.TheVariants.{No, Device}
 use Rattle.kfs_core.specs.declared.renaming.Move.{Move}
@@ -22,13 +22,12 @@ use Rattle.kfs_core.specs.Renaming.{MovesTo, MoveFault, RenameFails, with_moved,
 use Rattle.kfs_posix.specs.Opens.{Opens, nodes_of}
 use Rattle.kfs_posix.specs.Removing.{open_now}
 use Rattle.kfs_posix.specs.Renaming.{Renamed, NotRenamed, rename_by, without_replaced}
-use Rattle.kfs_posix.specs.Volume.{Volume, SessionState, state_of, volume_of, running_in, cause_of}
-use Rattle.kfs_posix.specs.Answering.{refusal, down_after}
+use Rattle.kfs_posix.specs.Volume.{Volume, SessionState, state_of, volume_of, cause_of}
+use Rattle.kfs_posix.specs.Answering.{IsYoung, refusal, down_after}
 use Rattle.kfs_posix.specs.Showing.{GoesOn}
 use Rattle.kfs_posix.proofs.Fault.{caused_counts, alone_caused}
-use Rattle.kfs_posix.proofs.Events.{Happens, same_machine, answered, failed, low_count, Fails}
+use Rattle.kfs_posix.proofs.Events.{Happens, same_machine, answered, failed, low_count, Fails, done_plain}
 use Rattle.kfs_posix.proofs.Planned.{changed_same}
-use Rattle.kfs_posix.proofs.UnnameAnswers.{done_plain}
 use Rattle.kfs_posix.proofs.RenameGoes.{moved_same, rename_caused, rename_rest, rename_no, rename_goes, rename_falls, rename_unread}
 use Rattle.kfs_posix.proofs.Going.{errs}
 
@@ -40,7 +39,7 @@ rename_not_done old new o p q from to judge nodes (Device f) a b is (stays, inl 
 rename_not_done old new o p q from to judge nodes (Device fault) a b is (stays, inr (move, judged, fell)) =
     (stays, refl, inr (move, (λ i. a i >>= λ f. b i >>= λ g. judge f g) ∙ judged, subst (λ ns. MoveFault (tx_in old) move (is_open_in ns) fault (tx_in new).machine) is fell))
 
-module _ (old : SessionState) (k0 k1 : KfsState) (o o1 : Opens) (d : Option Cause) (is : state_of k0 o d ≡ old) (up : d ≡ None) (awake : (tx_in k0).machine.up ≡ true) (age : age_of (running_in old) < 2 ^ 63 - 2 ^ 40) (from to : List ℕ) where
+module _ (old : SessionState) (k0 k1 : KfsState) (o o1 : Opens) (d : Option Cause) (is : state_of k0 o d ≡ old) (up : d ≡ None) (awake : (tx_in k0).machine.up ≡ true) (age : IsYoung old) (from to : List ℕ) where
   abbrev b : Volume
   b = volume_of k0 o d
 

@@ -9,7 +9,7 @@ use Rattle.kfs_path.specs.declared.call.Reply.{Reply}
 use Rattle.kfs_path.specs.declared.call.Reply.TheVariants as replies
 use Rattle.kfs_model.specs.declared.Line.TheVariants as lines
 use Rattle.kfs_model.specs.declared.Answer.TheVariants as answers
-use Rattle.kfs_tx.specs.Tx.{Tx, age_of, one_change}
+use Rattle.kfs_tx.specs.Tx.{Tx, one_change}
 use Rattle.kfs_core.specs.declared.fault.CoreFault.{CoreFault}
 use Rattle.kfs_core.specs.declared.fault.CoreFault.TheVariants.{No, Device}
 use Rattle.kfs_core.specs.Core.{KfsState, tx_in}
@@ -17,18 +17,17 @@ use Rattle.kfs_core.specs.Files.{with_length}
 use Rattle.kfs_core.specs.Resizing.{ResizesTo, resize_weight}
 use Rattle.kfs_posix.specs.Opens.{Opens, relengthed}
 use Rattle.kfs_posix.specs.Resizing.{Resized, NotResized}
-use Rattle.kfs_posix.specs.Volume.{Volume, SessionState, state_of, volume_of, running_in, cause_of}
-use Rattle.kfs_posix.specs.Answering.{refusal, down_after}
+use Rattle.kfs_posix.specs.Volume.{Volume, SessionState, state_of, volume_of, cause_of}
+use Rattle.kfs_posix.specs.Answering.{IsYoung, refusal, down_after}
 use Rattle.kfs_posix.specs.Showing.{GoesOn}
 use Rattle.kfs_posix.proofs.Fault.{caused_counts, alone_caused}
-use Rattle.kfs_posix.proofs.Events.{Happens, same_machine, answered, failed, low_count, Fails}
+use Rattle.kfs_posix.proofs.Events.{Happens, same_machine, answered, failed, low_count, Fails, done_plain}
 use Rattle.kfs_posix.proofs.Going.{spare, spare_free, idle_goes, errs}
 use Rattle.kfs_posix.proofs.Planned.{changed_same, unread_at}
-use Rattle.kfs_posix.proofs.UnnameAnswers.{done_plain}
 use Rattle.kfs_posix.proofs.ResizeGoes.{length_same, length_rests, length_goes, length_falls, resize_caused, charge_now, chunks_now}
 use Rattle.kfs_posix.proofs.ResizeEvents.{IsResizing}
 
-module _ (old : SessionState) (k0 k1 : KfsState) (o o1 : Opens) (d : Option Cause) (is : state_of k0 o d ≡ old) (up : d ≡ None) (awake : (tx_in k0).machine.up ≡ true) (age : age_of (running_in old) < 2 ^ 63 - 2 ^ 40)
+module _ (old : SessionState) (k0 k1 : KfsState) (o o1 : Opens) (d : Option Cause) (is : state_of k0 o d ≡ old) (up : d ≡ None) (awake : (tx_in k0).machine.up ≡ true) (age : IsYoung old)
     (call : Call) (judge : Result (ℕ × ℕ) Errno) (size : ℕ) (resizing : IsResizing (volume_of k0 o d) call judge size) where
   abbrev b : Volume
   b = volume_of k0 o d

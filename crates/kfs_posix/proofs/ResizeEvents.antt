@@ -37,9 +37,9 @@ use Rattle.kfs_posix.specs.Showing.{ShowsLive}
 use Rattle.kfs_posix.proofs.Held.{world_in, described, opened_same, file_is}
 use Rattle.kfs_posix.proofs.Going.{spare}
 use Rattle.kfs_posix.proofs.Calls.{stands_of, any_cause}
-use Rattle.kfs_posix.proofs.ReadGoes.{file_bytes}
+use Rattle.kfs_posix.proofs.ReadGoes.{file_bytes, as_described}
 use Rattle.kfs_posix.proofs.UnnameGoes.{ok_bind, err_bind}
-use Rattle.kfs_posix.proofs.WriteJudges.{as_described, writable_same, writable_is, relengthed_desk, relengthed_holds}
+use Rattle.kfs_posix.proofs.WriteJudges.{writable_same, writable_is, relengthed_desk, relengthed_holds}
 use Rattle.kfs_posix.proofs.WriteEvents.{looked_up, space_of, space_is}
 use Rattle.kfs_posix.proofs.ResizeGoes.{Lengthens}
 

@@ -10,10 +10,7 @@ use Rattle.std.proofs.lemmas.Bool.Decides.{nat_tests}
 use Rattle.std.proofs.lemmas.List.{get_or-set_same, get_or-set_other}
 use Rattle.slab.specs.Slab.{Slab, entries_from, Updates}
 use Rattle.kfs_laws.proofs.Lookups.{same_numbers, number_put, number_other, decide_number, number_apart, number_tied}
-
-both : (a b : Bool) → T a → T b → T (a && b)
-both true b p q = q
-both false b p q = p
+use Rattle.kfs_model.proofs.Tests.{both}
 
 -- whether a slot has the number is whether an entry has it
 held_from : (d n i : ℕ) (slots : List (Option ℕ)) → slice_index_or slots i None ≡ Some d → list_any (λ e. e.1 == d) (entries_from n slots) ≡ true

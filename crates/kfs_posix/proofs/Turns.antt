@@ -22,7 +22,7 @@ use Rattle.kfs_posix.specs.Opens.{Opens, desk_of, open_at, with_descriptor, with
 use Rattle.kfs_posix.specs.Holding.{Holds}
 use Rattle.kfs_posix.specs.Turning.{Turn, turned, dup_in, lseek_in, fstat_in, base, at_offset}
 use Rattle.kfs_posix.specs.Volume.{Volume, SessionState, state_of, volume_of, limits_of}
-use Rattle.kfs_posix.specs.Answering.{Counts, KeepsCause}
+use Rattle.kfs_posix.specs.Answering.{CountsFaults, KeepsCause}
 use Rattle.kfs_posix.specs.Showing.{GoesOn}
 use Rattle.kfs_posix.proofs.Held.{world_in, after_in, dup_same, dup_holds, lseek_same, lseek_holds, fstat_same, fstat_files}
 use Rattle.kfs_posix.proofs.Going.{spare, spare_free, turn_goes}
@@ -93,7 +93,7 @@ fstat_turns o fd = record {
 
 -- ---- of a session
 
-still_counts : (m : Machine) (reply : Reply) → IsAnswer reply → Counts m reply m
+still_counts : (m : Machine) (reply : Reply) → IsAnswer reply → CountsFaults m reply m
 still_counts m (replies.Down cause) h = absurd h
 still_counts m replies.Off h = absurd h
 still_counts m reply h = (refl, refl)
@@ -122,8 +122,8 @@ module _ (old : SessionState) (k0 : KfsState) (o o1 : Opens) (d : Option Cause) 
   is_answer : IsAnswer reply
   is_answer = subst (λ (x : Turn). IsAnswer x.reply) (sym done) turns.answers
 
-  pub turned_counts : Counts old.volume.tx.machine reply (tx_in k0).machine
-  turned_counts = subst (λ (s : SessionState). Counts s.volume.tx.machine reply (tx_in k0).machine) is (still_counts (tx_in k0).machine reply is_answer)
+  pub turned_counts : CountsFaults old.volume.tx.machine reply (tx_in k0).machine
+  turned_counts = subst (λ (s : SessionState). CountsFaults s.volume.tx.machine reply (tx_in k0).machine) is (still_counts (tx_in k0).machine reply is_answer)
 
   pub turned_keeps : KeepsCause old.volume reply (volume_of k0 o1 d)
   turned_keeps = subst (λ (s : SessionState). KeepsCause s.volume reply (volume_of k0 o1 d)) is (still_up b (volume_of k0 o1 d) reply is_answer up up)

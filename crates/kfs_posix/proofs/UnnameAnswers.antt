@@ -8,26 +8,23 @@ use Rattle.kfs_path.specs.declared.call.Reply.{Reply}
 use Rattle.kfs_path.specs.declared.call.Reply.TheVariants as replies
 use Rattle.kfs_model.specs.declared.Line.TheVariants as lines
 use Rattle.kfs_model.specs.declared.Answer.TheVariants as answers
-use Rattle.kfs_tx.specs.Tx.{Tx, age_of}
+use Rattle.kfs_tx.specs.Tx.{Tx}
 use Rattle.kfs_core.specs.declared.fault.CoreFault.{CoreFault}
 use Rattle.kfs_core.specs.declared.fault.CoreFault.TheVariants.{No, Device}
 use Rattle.kfs_core.specs.declared.removing.Leaf.{Leaf}
 use Rattle.kfs_core.specs.Core.{KfsState, tx_in}
 use Rattle.kfs_posix.specs.Opens.{Opens, without_name}
 use Rattle.kfs_posix.specs.Removing.{Unnamed, UnnameFails, open_now}
-use Rattle.kfs_posix.specs.Volume.{Volume, SessionState, state_of, volume_of, running_in, cause_of}
-use Rattle.kfs_posix.specs.Answering.{refusal, down_after}
+use Rattle.kfs_posix.specs.Volume.{Volume, SessionState, state_of, volume_of, cause_of}
+use Rattle.kfs_posix.specs.Answering.{IsYoung, refusal, down_after}
 use Rattle.kfs_posix.specs.Showing.{GoesOn}
 use Rattle.kfs_posix.proofs.Fault.{caused_counts, alone_caused}
-use Rattle.kfs_posix.proofs.Events.{Happens, IsPlain, plain, answered, failed, low_count, Fails}
+use Rattle.kfs_posix.proofs.Events.{Happens, done_plain, answered, failed, low_count, Fails}
 use Rattle.kfs_posix.proofs.Planned.{changed_same}
 use Rattle.kfs_posix.proofs.UnnameGoes.{IsRemoval, unnames_same, unname_weight, unname_goes, unname_refused, unname_unread, unname_falls, unname_caused}
 use Rattle.kfs_posix.proofs.Going.{errs}
 
-pub done_plain : IsPlain replies.Done
-done_plain = plain (λ old new h. h) (λ old new a b. (a, b))
-
-module _ (old : SessionState) (k0 k1 : KfsState) (o o1 : Opens) (d : Option Cause) (is : state_of k0 o d ≡ old) (up : d ≡ None) (awake : (tx_in k0).machine.up ≡ true) (age : age_of (running_in old) < 2 ^ 63 - 2 ^ 40)
+module _ (old : SessionState) (k0 k1 : KfsState) (o o1 : Opens) (d : Option Cause) (is : state_of k0 o d ≡ old) (up : d ≡ None) (awake : (tx_in k0).machine.up ≡ true) (age : IsYoung old)
     (call : Call) (judge : Result Leaf Errno) (removal : IsRemoval (volume_of k0 o d) call judge) where
   abbrev b : Volume
   b = volume_of k0 o d

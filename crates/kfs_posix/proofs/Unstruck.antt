@@ -11,8 +11,8 @@ use Rattle.kfs_model.specs.declared.Answer.TheVariants as answers
 use Rattle.kfs_model.specs.Tree.{Limits}
 use Rattle.kfs_model.specs.Life.{State, Now, Up, Down, EventAt, live_after, fallen}
 use Rattle.kfs_model.specs.Step.{step}
-use Rattle.kfs_step_laws.specs.Plain.{PlainAnswer}
-use Rattle.kfs_posix.specs.Answering.{Counts}
+use Rattle.kfs_laws.specs.Plain.{PlainAnswer}
+use Rattle.kfs_posix.specs.Answering.{CountsFaults}
 use Rattle.kfs_posix.specs.Volume.{limits_of}
 use Rattle.kfs_posix.specs.Unplanned.{IsUnplanned, CallsFailUnplannedByMemoryAlone}
 use Rattle.kfs_posix.proofs.Shown.{fits}
@@ -21,14 +21,14 @@ use Rattle.kfs_posix.proofs.Shown.{fits}
 at_bound : (old new most : ℕ) → most ≡ old → most < 2 ^ 63 → new ≤ most → new ≡ one_more old → ⊥
 at_bound old new most bound few low up = omega arith
 
-no_cut : (m new : Machine) (reply : Reply) → IsUnplanned m → m.most_cuts < 2 ^ 63 → Counts m reply new → reply ≡ replies.Down Cut → ⊥
+no_cut : (m new : Machine) (reply : Reply) → IsUnplanned m → m.most_cuts < 2 ^ 63 → CountsFaults m reply new → reply ≡ replies.Down Cut → ⊥
 no_cut m new reply none few counts is =
-    let h : Counts m (replies.Down Cut) new = subst (λ r. Counts m r new) is counts in
+    let h : CountsFaults m (replies.Down Cut) new = subst (λ r. CountsFaults m r new) is counts in
     at_bound m.cuts new.cuts m.most_cuts none.cuts few h.0.0 h.0.1
 
-no_fault : (m new : Machine) (reply : Reply) → IsUnplanned m → m.most_faults < 2 ^ 63 → Counts m reply new → reply ≡ replies.Down Eio → ⊥
+no_fault : (m new : Machine) (reply : Reply) → IsUnplanned m → m.most_faults < 2 ^ 63 → CountsFaults m reply new → reply ≡ replies.Down Eio → ⊥
 no_fault m new reply none few counts is =
-    let h : Counts m (replies.Down Eio) new = subst (λ r. Counts m r new) is counts in
+    let h : CountsFaults m (replies.Down Eio) new = subst (λ r. CountsFaults m r new) is counts in
     at_bound m.faults new.faults m.most_faults none.faults few h.0.0 h.0.1
 
 plain_at : (k : Limits) (s t : State) (now : Now) (call : Call) (reply : Reply) → (reply ≡ replies.Down Cut → ⊥) → (reply ≡ replies.Down Eio → ⊥) → EventAt k s now (lines.Call call) (answers.Reply reply) t → PlainAnswer k now (lines.Call call) (answers.Reply reply)

@@ -27,18 +27,15 @@ use Rattle.kfs_core.specs.Working.{WorkFails}
 use Rattle.kfs_core.proofs.Told.{told_same}
 use Rattle.kfs_posix.specs.Opens.{Opens}
 use Rattle.kfs_posix.specs.Volume.{Volume, SessionState, state_of, volume_of, limits_of, cause_of}
-use Rattle.kfs_posix.specs.Answering.{Counts, refusal, down_after}
+use Rattle.kfs_posix.specs.Answering.{CountsFaults, refusal, down_after}
 use Rattle.kfs_posix.specs.Showing.{ShowsLive, GoesOn}
 use Rattle.kfs_posix.proofs.Going.{as_before, idle_goes, fall_goes, Refuses}
 use Rattle.kfs_posix.proofs.Calls.{stands_of, read_falls, any_cause}
 use Rattle.kfs_posix.proofs.Fault.{read_counts, caused_counts, alone_caused}
-use Rattle.kfs_posix.proofs.Events.{Happens, IsPlain, plain, same_machine, answered, failed, Fails}
+use Rattle.kfs_posix.proofs.Events.{Happens, Fails, plain, done_plain, idle, fails}
+use Rattle.kfs_posix.proofs.Rooms.{both_true}
 
 -- ---- the tree
-
-both_true : (a b : Bool) → (a && b) ≡ true → (a ≡ true) × (b ≡ true)
-both_true true b e = (refl, e)
-both_true false b e = absurd (cc)
 
 -- a session on a device of few keys sees few objects
 few_seen : (b : Volume) (live : Live) → ShowsLive b live → b.keys < 2 ^ 32 → objects.len (seen b.tx) < 2 ^ 32
@@ -85,24 +82,11 @@ module _ (old : SessionState) (k0 k1 : KfsState) (o : Opens) (d : Option Cause) 
   abbrev b : Volume
   b = volume_of k0 o d
 
-  -- answered, with all as it was
-  idle : (call : Call) (reply : Reply) → IsPlain reply → tx_in k1 ≡ tx_in k0 → GoesOn b (lines.Call call) (answers.Reply reply) b → Happens old call reply k1 o d
-  idle call reply is_plain leaves goes =
-      answered old k0 k1 o o d is up call reply is_plain (tx_in k0) k0.charge k0.chunks o (same_machine (tx_in k0)) leaves
-      (ap (λ (k : KfsState). k.charge) rest) (ap (λ (k : KfsState). k.chunks) rest) (ap (λ (k : KfsState). k.keys) rest) (ap (λ (k : KfsState). k.pages) rest) refl goes
-
-  -- down
-  fails : (call : Call) (fault : CoreFault) (reply : Reply) (d1 : Option Cause) → reply ≡ refusal fault → d1 ≡ down_after d fault
-      → Counts (tx_in k0).machine (refusal fault) (tx_in k1).machine → Refuses b call fault (record b { tx = tx_in k1; down = down_after d fault }) → Fails old call fault reply k1 o d1
-  fails call fault reply d1 reply_is down counts goes =
-      failed old k0 k1 o o d is up call fault reply d1 reply_is down
-      (ap (λ (k : KfsState). k.charge) rest) (ap (λ (k : KfsState). k.chunks) rest) (ap (λ (k : KfsState). k.keys) rest) (ap (λ (k : KfsState). k.pages) rest) refl counts goes
-
   pub tree_answered : (items : List TreeItem) → k0.keys ≤ 68544 → ListsAll (seen (tx_in k0)) items → tx_in k1 ≡ tx_in k0 → Happens old calls.Tree (replies.Tree items) k1 o d
-  tree_answered items small lists leaves = idle calls.Tree (replies.Tree items) (plain (λ old new h. h) (λ old new a b. (a, b))) leaves (tree_goes b items up (omega arith) lists)
+  tree_answered items small lists leaves = idle old k0 k1 o d is up rest calls.Tree (replies.Tree items) (plain (λ old new h. h) (λ old new a b. (a, b))) leaves (tree_goes b items up (omega arith) lists)
 
   pub tree_failed : (fault : CoreFault) (reply : Reply) (d1 : Option Cause) → IsOfDevice fault → LeavesAtFault (tx_in k0) fault (tx_in k1) → reply ≡ refusal fault → d1 ≡ down_after d fault → Fails old calls.Tree fault reply k1 o d1
-  tree_failed fault reply d1 own leaves reply_is down = fails calls.Tree fault reply d1 reply_is down (read_counts (tx_in k0) (tx_in k1) fault awake leaves) (by fault own leaves)
+  tree_failed fault reply d1 own leaves reply_is down = fails old k0 k1 o d is up rest calls.Tree fault reply d1 reply_is down (read_counts (tx_in k0) (tx_in k1) fault awake leaves) (by fault own leaves)
     where
       by : (fault : CoreFault) → IsOfDevice fault → LeavesAtFault (tx_in k0) fault (tx_in k1) → Refuses b calls.Tree fault (record b { tx = tx_in k1; down = down_after d fault })
       by (No e) own leaves = absurd own
@@ -110,12 +94,12 @@ module _ (old : SessionState) (k0 k1 : KfsState) (o : Opens) (d : Option Cause) 
 
   module _ (operations : ℕ) where
     pub work_answered : tx_in k1 ≡ tx_in k0 → Happens old (calls.Work operations) replies.Done k1 o d
-    work_answered leaves = idle (calls.Work operations) replies.Done (plain (λ old new h. h) (λ old new a b. (a, b))) leaves (work_goes b operations up)
+    work_answered leaves = idle old k0 k1 o d is up rest (calls.Work operations) replies.Done done_plain leaves (work_goes b operations up)
 
     pub work_failed : (fault : CoreFault) (reply : Reply) (d1 : Option Cause) → WorkFails (tx_in k0) (tx_in k1) fault → reply ≡ refusal fault → d1 ≡ down_after d fault → Fails old (calls.Work operations) fault reply k1 o d1
-    work_failed fault reply d1 h reply_is down = fails (calls.Work operations) fault reply d1 reply_is down (counts fault h) (by fault h)
+    work_failed fault reply d1 h reply_is down = fails old k0 k1 o d is up rest (calls.Work operations) fault reply d1 reply_is down (counts fault h) (by fault h)
       where
-        counts : (fault : CoreFault) → WorkFails (tx_in k0) (tx_in k1) fault → Counts (tx_in k0).machine (refusal fault) (tx_in k1).machine
+        counts : (fault : CoreFault) → WorkFails (tx_in k0) (tx_in k1) fault → CountsFaults (tx_in k0).machine (refusal fault) (tx_in k1).machine
         counts (No e) h = absurd h
         counts (Device f) h = caused_counts (tx_in k0).machine f (tx_in k1).machine awake (alone_caused (tx_in k0).machine f (tx_in k1).machine h.1)
 

@@ -14,7 +14,7 @@ use Rattle.kfs_model.specs.declared.Answer.TheVariants as answers
 use Rattle.kfs_model.specs.Change.{spanned}
 use Rattle.kfs_model.specs.Step.{natural, World}
 use Rattle.kfs_model.specs.Life.{Live, can_fail}
-use Rattle.kfs_tx.specs.Tx.{age_of, one_change, GetFault}
+use Rattle.kfs_tx.specs.Tx.{one_change, GetFault}
 use Rattle.kfs_core.specs.declared.fault.CoreFault.{CoreFault}
 use Rattle.kfs_core.specs.declared.fault.CoreFault.TheVariants.{No, Device}
 use Rattle.kfs_core.specs.Core.{KfsState, tx_in, Same, Stays, Takes}
@@ -23,8 +23,8 @@ use Rattle.kfs_core.specs.Room.{grown, chunks_for, fits_in, space_in}
 use Rattle.kfs_core.proofs.FileFaults.{write_caused}
 use Rattle.kfs_posix.specs.Opens.{Opens, relengthed}
 use Rattle.kfs_posix.specs.Writing.{writable_in, writable_at, place_of, behind, moved_behind, FdWriteDoes, PwriteDoes}
-use Rattle.kfs_posix.specs.Volume.{Volume, SessionState, state_of, volume_of, running_in, cause_of}
-use Rattle.kfs_posix.specs.Answering.{refusal, down_after}
+use Rattle.kfs_posix.specs.Volume.{Volume, SessionState, state_of, volume_of, cause_of}
+use Rattle.kfs_posix.specs.Answering.{IsYoung, refusal, down_after}
 use Rattle.kfs_posix.specs.Showing.{ShowsLive, GoesOn}
 use Rattle.kfs_posix.proofs.Fault.{caused_counts, alone_caused}
 use Rattle.kfs_posix.proofs.Events.{Happens, same_machine, answered, failed, low_count, Fails}
@@ -34,7 +34,7 @@ use Rattle.kfs_posix.proofs.WriteGoes.{Puts, put_goes, same_numbers, wrote_falls
 use Rattle.kfs_posix.proofs.WriteEvents
 use Rattle.kfs_posix.proofs.Going.{errs}
 
-module _ (old : SessionState) (k0 k1 : KfsState) (o o1 : Opens) (d : Option Cause) (is : state_of k0 o d ≡ old) (up : d ≡ None) (awake : (tx_in k0).machine.up ≡ true) (age : age_of (running_in old) < 2 ^ 63 - 2 ^ 40) where
+module _ (old : SessionState) (k0 k1 : KfsState) (o o1 : Opens) (d : Option Cause) (is : state_of k0 o d ≡ old) (up : d ≡ None) (awake : (tx_in k0).machine.up ≡ true) (age : IsYoung old) where
   abbrev b : Volume
   b = volume_of k0 o d
 
@@ -155,7 +155,7 @@ module _ (old : SessionState) (k0 k1 : KfsState) (o o1 : Opens) (d : Option Caus
           f reply d1 reply_is down rest files h
 
 -- no memory for the bytes
-pub no_memory : (old : SessionState) (k0 : KfsState) (o : Opens) (d : Option Cause) → state_of k0 o d ≡ old → d ≡ None → (tx_in k0).machine.up ≡ true → age_of (running_in old) < 2 ^ 63 - 2 ^ 40 → (call : Call) → ((w : World) (cause : Cause) → can_fail w call cause ≡ true)
+pub no_memory : (old : SessionState) (k0 : KfsState) (o : Opens) (d : Option Cause) → state_of k0 o d ≡ old → d ≡ None → (tx_in k0).machine.up ≡ true → IsYoung old → (call : Call) → ((w : World) (cause : Cause) → can_fail w call cause ≡ true)
     → (fault : CoreFault) (reply : Reply) (d1 : Option Cause) → fault ≡ Device Memory → reply ≡ refusal fault → d1 ≡ down_after d fault → Fails old call fault reply k0 o d1
 no_memory old k0 o d is up awake age call can fault reply d1 memory reply_is down =
     subst (λ f. Fails old call f reply k0 o d1) (sym memory)

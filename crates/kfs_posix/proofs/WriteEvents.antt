@@ -40,8 +40,8 @@ use Rattle.kfs_posix.specs.Writing.{writable_in, writable_at, place_of, behind, 
 use Rattle.kfs_posix.specs.Volume.{Volume, limits_of}
 use Rattle.kfs_posix.specs.Showing.{ShowsLive, GoesOn}
 use Rattle.kfs_posix.proofs.Held.{world_in, file_is, descriptor_is, with_file_desk, file_holds, moved_knows, content_known}
-use Rattle.kfs_posix.proofs.ReadGoes.{file_bytes}
-use Rattle.kfs_posix.proofs.WriteJudges.{relengthed_knows, same_it, relengthed_desk, relengthed_at, relengthed_holds, moved_is, fits_short, fits_room, as_described, writable_same, writable_is, writes_some, wrote_after}
+use Rattle.kfs_posix.proofs.ReadGoes.{file_bytes, as_described}
+use Rattle.kfs_posix.proofs.WriteJudges.{relengthed_knows, same_it, relengthed_desk, relengthed_at, relengthed_holds, moved_is, fits_short, fits_room, writable_same, writable_is, writes_some, wrote_after}
 use Rattle.kfs_posix.proofs.WriteGoes.{Puts}
 use Rattle.kfs_posix.proofs.Going.{spare, idle_goes}
 use Rattle.kfs_posix.proofs.Calls.{stands_of}

@@ -28,6 +28,8 @@ use Rattle.kfs_posix.specs.Turning.{at_offset}
 use Rattle.kfs_posix.specs.Writing.{writable_in}
 use Rattle.kfs_posix.proofs.Maps.{mapped, find-map}
 use Rattle.kfs_posix.proofs.Held.{world_in, description, described, opened_same}
+use Rattle.kfs_posix.proofs.Rooms.{both_true}
+use Rattle.kfs_posix.proofs.ReadGoes.{as_described}
 
 -- ---- a file's new content
 
@@ -103,10 +105,6 @@ module _ (k : Limits) (t : Tree) (tree : IsTree t) (n : ℕ) (bytes : List ℕ) 
   test : fits_at k t n bytes p (fits k t n bytes p m) ≡ true
   test = elim (fits_most k t n bytes p m).passes [ inl none ↦ absurd (omega arith) | inr e ↦ e ]
 
-  both_true : (a b : Bool) → (a && b) ≡ true → (a ≡ true) × (b ≡ true)
-  both_true true b e = (refl, e)
-  both_true false b e = absurd (cc)
-
   abbrev j : ℕ
   j = fits k t n bytes p m
 
@@ -135,10 +133,6 @@ module _ (k : Limits) (t : Tree) (tree : IsTree t) (n : ℕ) (bytes : List ℕ) 
 
 abbrev tests : Bool → ℕ × Description → Result (ℕ × Description) Errno
 tests a it = (EBADF when a) >> Ok it
-
-abbrev pub as_described : Result (ℕ × OpenFile) Errno → Result (ℕ × Description) Errno
-as_described (Ok it) = Ok (described it)
-as_described (Err e) = Err e
 
 abbrev pub writable : World → ℕ → Result (ℕ × Description) Errno
 writable w fd = or_else (opened w.desk fd) EBADF >>= λ it. (EBADF when not it.1.write) >> Ok it
@@ -188,6 +182,3 @@ writes_some k w d it given bytes p =
 abbrev pub writes_at : Limits → World → ℕ → Description → List ℕ → List ℕ → ℕ → Result After Errno
 writes_at k w d it given bytes p =
     (EINVAL when nat_lt greatest_count (length given)) >> cond (is_empty given) (answered_by w (replies.Number 0)) (writes_some k w d it given bytes p)
-
-pub writes_is : (k : Limits) (w : World) (d : ℕ) (it : Description) (given : List ℕ) → writes k w (d, it) given ≡ writes_at k w d it given (content w.tree it.node) (cond it.append (length (content w.tree it.node)) it.offset)
-writes_is k w d it given = refl

@@ -6,8 +6,8 @@ use Rattle.kfs_path.specs.declared.call.Reply.{Reply}
 use Rattle.kfs_model.specs.declared.Line.TheVariants as lines
 use Rattle.kfs_model.specs.declared.Answer.TheVariants as answers
 use Rattle.kfs_model.specs.Life.{State}
-use Rattle.kfs_step_laws.specs.Plain.{PlainAnswer}
-use Rattle.kfs_posix.specs.Answering.{Counts}
+use Rattle.kfs_laws.specs.Plain.{PlainAnswer}
+use Rattle.kfs_posix.specs.Answering.{CountsFaults}
 use Rattle.kfs_posix.specs.Volume.{Volume, limits_of}
 use Rattle.kfs_posix.specs.Showing.{ShowsState, GoesOn}
 
@@ -21,5 +21,5 @@ pub record IsUnplanned (m : Machine) : Type 0 where
 abbrev pub CallsFailUnplannedByMemoryAlone : Type 0
 CallsFailUnplannedByMemoryAlone =
     (old new : Volume) (call : Call) (reply : Reply)
-    → GoesOn old (lines.Call call) (answers.Reply reply) new → Counts old.tx.machine reply new.tx.machine → IsUnplanned old.tx.machine
+    → GoesOn old (lines.Call call) (answers.Reply reply) new → CountsFaults old.tx.machine reply new.tx.machine → IsUnplanned old.tx.machine
     → (s : State) → ShowsState old s → PlainAnswer (limits_of old) s.now (lines.Call call) (answers.Reply reply)

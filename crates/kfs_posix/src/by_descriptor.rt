@@ -1,14 +1,12 @@
 // The calls by descriptors.
-ghost use Rattle.std.specs.Prelude.{◌≡◌, ◌≤◌, ◌<◌, ◌+◌, ◌-◌, ◌^◌};
-ghost use Rattle.kfs_tx.specs.Tx.{age_of, Aged};
-ghost use Rattle.kfs_posix.specs.Answering.{Counts, KeepsCause};
+ghost use Rattle.kfs_posix.specs.Answering.{Answers, IsYoung};
 
 use crate::closing::close;
 use crate::reading::{pread, read};
 use crate::resizing::ftruncate;
 use crate::session::{Session, refuse};
 use crate::turning::{dup, fstat, lseek};
-use crate::writing::{filled, pwrite, write};
+use crate::writing::{fill, pwrite, write};
 use kfs_path::{Data, Errno, Reply, Whence};
 use kv_device::Device;
 use std::alloc::Global;
@@ -16,19 +14,11 @@ use std::alloc::Global;
 impl<D: Device> Session<D> {
     ghost use Rattle.kfs_path.specs.declared.call.Call.TheVariants as calls;
     ghost use Rattle.kfs_path.specs.declared.call.Data.TheVariants as payload;
-    ghost use Rattle.kfs_model.specs.declared.Line.TheVariants as lines;
-    ghost use Rattle.kfs_model.specs.declared.Answer.TheVariants as answers;
-    ghost use Rattle.kfs_posix.specs.Volume.{running_in, limits_of};
-    ghost use Rattle.kfs_posix.specs.Showing.{GoesOn};
 
     /// Closes a descriptor; a node without a name goes with the last description that has it.
     pub fn close(&mut self, alloc: Global, fd: u32) -> Reply
-        requires { age_of (running_in self.old) < 2 ^ 63 - 2 ^ 40 }
-        ensures goes_on { GoesOn self.old.volume (lines.Call (calls.Close fd)) (answers.Reply result) self.new.volume }
-        ensures counts { Counts self.old.volume.tx.machine result self.new.volume.tx.machine }
-        ensures room { limits_of self.new.volume ≡ limits_of self.old.volume }
-        ensures down { KeepsCause self.old.volume result self.new.volume }
-        ensures age { Aged (running_in self.old) (running_in self.new) (2 ^ 38) }
+        requires { IsYoung self.old }
+        ensures { Answers self.old (calls.Close fd) result self.new }
     {
         if self.down.is_some() {
             return Reply::Off;
@@ -41,11 +31,7 @@ impl<D: Device> Session<D> {
 
     /// Shares a descriptor's description with the lowest free descriptor. It takes no memory.
     pub fn dup(&mut self, fd: u32) -> Reply
-        ensures goes_on { GoesOn self.old.volume (lines.Call (calls.Dup fd)) (answers.Reply result) self.new.volume }
-        ensures counts { Counts self.old.volume.tx.machine result self.new.volume.tx.machine }
-        ensures room { limits_of self.new.volume ≡ limits_of self.old.volume }
-        ensures down { KeepsCause self.old.volume result self.new.volume }
-        ensures age { Aged (running_in self.old) (running_in self.new) (2 ^ 38) }
+        ensures { Answers self.old (calls.Dup fd) result self.new }
     {
         if self.down.is_some() {
             return Reply::Off;
@@ -55,11 +41,7 @@ impl<D: Device> Session<D> {
 
     /// Moves a descriptor's offset, and answers it. It takes no memory.
     pub fn lseek(&mut self, fd: u32, whence: Whence, offset: i64) -> Reply
-        ensures goes_on { GoesOn self.old.volume (lines.Call (calls.Lseek fd whence offset)) (answers.Reply result) self.new.volume }
-        ensures counts { Counts self.old.volume.tx.machine result self.new.volume.tx.machine }
-        ensures room { limits_of self.new.volume ≡ limits_of self.old.volume }
-        ensures down { KeepsCause self.old.volume result self.new.volume }
-        ensures age { Aged (running_in self.old) (running_in self.new) (2 ^ 38) }
+        ensures { Answers self.old (calls.Lseek fd whence offset) result self.new }
     {
         if self.down.is_some() {
             return Reply::Off;
@@ -69,11 +51,7 @@ impl<D: Device> Session<D> {
 
     /// What a descriptor has open.
     pub fn fstat(&mut self, _alloc: Global, fd: u32) -> Reply
-        ensures goes_on { GoesOn self.old.volume (lines.Call (calls.Fstat fd)) (answers.Reply result) self.new.volume }
-        ensures counts { Counts self.old.volume.tx.machine result self.new.volume.tx.machine }
-        ensures room { limits_of self.new.volume ≡ limits_of self.old.volume }
-        ensures down { KeepsCause self.old.volume result self.new.volume }
-        ensures age { Aged (running_in self.old) (running_in self.new) (2 ^ 38) }
+        ensures { Answers self.old (calls.Fstat fd) result self.new }
     {
         if self.down.is_some() {
             return Reply::Off;
@@ -83,17 +61,13 @@ impl<D: Device> Session<D> {
 
     /// Commits all changes, for a descriptor that is open.
     pub fn fsync(&mut self, alloc: Global, fd: u32) -> Reply
-        requires { age_of (running_in self.old) < 2 ^ 63 - 2 ^ 40 }
-        ensures goes_on { GoesOn self.old.volume (lines.Call (calls.Fsync fd)) (answers.Reply result) self.new.volume }
-        ensures counts { Counts self.old.volume.tx.machine result self.new.volume.tx.machine }
-        ensures room { limits_of self.new.volume ≡ limits_of self.old.volume }
-        ensures down { KeepsCause self.old.volume result self.new.volume }
-        ensures age { Aged (running_in self.old) (running_in self.new) (2 ^ 38) }
+        requires { IsYoung self.old }
+        ensures { Answers self.old (calls.Fsync fd) result self.new }
     {
         if self.down.is_some() {
             return Reply::Off;
         }
-        let Some(_) = self.files.opened(fd) else {
+        let Some(_) = self.files.get(fd) else {
             return Reply::Err(Errno::EBADF);
         };
         match self.kfs.commit(alloc) {
@@ -104,12 +78,8 @@ impl<D: Device> Session<D> {
 
     /// Reads from the offset on, at most so many bytes, and moves the offset behind them.
     pub fn read(&mut self, alloc: Global, fd: u32, count: u32) -> Reply
-        requires { age_of (running_in self.old) < 2 ^ 63 - 2 ^ 40 }
-        ensures goes_on { GoesOn self.old.volume (lines.Call (calls.Read fd count)) (answers.Reply result) self.new.volume }
-        ensures counts { Counts self.old.volume.tx.machine result self.new.volume.tx.machine }
-        ensures room { limits_of self.new.volume ≡ limits_of self.old.volume }
-        ensures down { KeepsCause self.old.volume result self.new.volume }
-        ensures age { Aged (running_in self.old) (running_in self.new) (2 ^ 38) }
+        requires { IsYoung self.old }
+        ensures { Answers self.old (calls.Read fd count) result self.new }
     {
         if self.down.is_some() {
             return Reply::Off;
@@ -122,12 +92,8 @@ impl<D: Device> Session<D> {
 
     /// Reads from a given place on, at most so many bytes.
     pub fn pread(&mut self, alloc: Global, fd: u32, count: u32, offset: i64) -> Reply
-        requires { age_of (running_in self.old) < 2 ^ 63 - 2 ^ 40 }
-        ensures goes_on { GoesOn self.old.volume (lines.Call (calls.Pread fd count offset)) (answers.Reply result) self.new.volume }
-        ensures counts { Counts self.old.volume.tx.machine result self.new.volume.tx.machine }
-        ensures room { limits_of self.new.volume ≡ limits_of self.old.volume }
-        ensures down { KeepsCause self.old.volume result self.new.volume }
-        ensures age { Aged (running_in self.old) (running_in self.new) (2 ^ 38) }
+        requires { IsYoung self.old }
+        ensures { Answers self.old (calls.Pread fd count offset) result self.new }
     {
         if self.down.is_some() {
             return Reply::Off;
@@ -140,12 +106,8 @@ impl<D: Device> Session<D> {
 
     /// Writes as many of the bytes as fit at the offset, or at the file's end in append mode, and answers how many.
     pub fn write(&mut self, alloc: Global, fd: u32, bytes: &[u8]) -> Reply
-        requires { age_of (running_in self.old) < 2 ^ 63 - 2 ^ 40 }
-        ensures goes_on { GoesOn self.old.volume (lines.Call (calls.Write fd (payload.Plain bytes.now))) (answers.Reply result) self.new.volume }
-        ensures counts { Counts self.old.volume.tx.machine result self.new.volume.tx.machine }
-        ensures room { limits_of self.new.volume ≡ limits_of self.old.volume }
-        ensures down { KeepsCause self.old.volume result self.new.volume }
-        ensures age { Aged (running_in self.old) (running_in self.new) (2 ^ 38) }
+        requires { IsYoung self.old }
+        ensures { Answers self.old (calls.Write fd (payload.Plain bytes.now)) result self.new }
     {
         if self.down.is_some() {
             return Reply::Off;
@@ -158,12 +120,8 @@ impl<D: Device> Session<D> {
 
     /// Writes as many of the bytes as fit at a given place, and answers how many.
     pub fn pwrite(&mut self, alloc: Global, fd: u32, bytes: &[u8], offset: i64) -> Reply
-        requires { age_of (running_in self.old) < 2 ^ 63 - 2 ^ 40 }
-        ensures goes_on { GoesOn self.old.volume (lines.Call (calls.Pwrite fd (payload.Plain bytes.now) offset)) (answers.Reply result) self.new.volume }
-        ensures counts { Counts self.old.volume.tx.machine result self.new.volume.tx.machine }
-        ensures room { limits_of self.new.volume ≡ limits_of self.old.volume }
-        ensures down { KeepsCause self.old.volume result self.new.volume }
-        ensures age { Aged (running_in self.old) (running_in self.new) (2 ^ 38) }
+        requires { IsYoung self.old }
+        ensures { Answers self.old (calls.Pwrite fd (payload.Plain bytes.now) offset) result self.new }
     {
         if self.down.is_some() {
             return Reply::Off;
@@ -177,12 +135,8 @@ impl<D: Device> Session<D> {
     /// Gives a descriptor's file a length in bytes: it is cut short, or zeros follow. Errors: EBADF where it
     /// isn't open for writing, EINVAL where negative, EFBIG above 1,048,576, ENOSPC without room.
     pub fn ftruncate(&mut self, alloc: Global, fd: u32, length: i64) -> Reply
-        requires { age_of (running_in self.old) < 2 ^ 63 - 2 ^ 40 }
-        ensures goes_on { GoesOn self.old.volume (lines.Call (calls.Ftruncate fd length)) (answers.Reply result) self.new.volume }
-        ensures counts { Counts self.old.volume.tx.machine result self.new.volume.tx.machine }
-        ensures room { limits_of self.new.volume ≡ limits_of self.old.volume }
-        ensures down { KeepsCause self.old.volume result self.new.volume }
-        ensures age { Aged (running_in self.old) (running_in self.new) (2 ^ 38) }
+        requires { IsYoung self.old }
+        ensures { Answers self.old (calls.Ftruncate fd length) result self.new }
     {
         if self.down.is_some() {
             return Reply::Off;
@@ -195,12 +149,8 @@ impl<D: Device> Session<D> {
 
     /// Writes the bytes of a call.
     pub(crate) fn write_data(&mut self, alloc: Global, fd: u32, given: &Data) -> Reply
-        requires { age_of (running_in self.old) < 2 ^ 63 - 2 ^ 40 }
-        ensures goes_on { GoesOn self.old.volume (lines.Call (calls.Write fd given.now)) (answers.Reply result) self.new.volume }
-        ensures counts { Counts self.old.volume.tx.machine result self.new.volume.tx.machine }
-        ensures room { limits_of self.new.volume ≡ limits_of self.old.volume }
-        ensures down { KeepsCause self.old.volume result self.new.volume }
-        ensures age { Aged (running_in self.old) (running_in self.new) (2 ^ 38) }
+        requires { IsYoung self.old }
+        ensures { Answers self.old (calls.Write fd given.now) result self.new }
     {
         match given {
             Data::Plain(text) => self.write(alloc, fd, text.bytes()),
@@ -208,7 +158,7 @@ impl<D: Device> Session<D> {
                 if self.down.is_some() {
                     return Reply::Off;
                 }
-                match filled(alloc, *count, *byte) {
+                match fill(alloc, *count, *byte) {
                     Ok(text) => self.write(alloc, fd, text.bytes()),
                     Err(fault) => refuse(&mut self.down, fault),
                 }
@@ -218,12 +168,8 @@ impl<D: Device> Session<D> {
 
     /// Writes the bytes of a call at a given place.
     pub(crate) fn pwrite_data(&mut self, alloc: Global, fd: u32, given: &Data, offset: i64) -> Reply
-        requires { age_of (running_in self.old) < 2 ^ 63 - 2 ^ 40 }
-        ensures goes_on { GoesOn self.old.volume (lines.Call (calls.Pwrite fd given.now offset)) (answers.Reply result) self.new.volume }
-        ensures counts { Counts self.old.volume.tx.machine result self.new.volume.tx.machine }
-        ensures room { limits_of self.new.volume ≡ limits_of self.old.volume }
-        ensures down { KeepsCause self.old.volume result self.new.volume }
-        ensures age { Aged (running_in self.old) (running_in self.new) (2 ^ 38) }
+        requires { IsYoung self.old }
+        ensures { Answers self.old (calls.Pwrite fd given.now offset) result self.new }
     {
         match given {
             Data::Plain(text) => self.pwrite(alloc, fd, text.bytes(), offset),
@@ -231,7 +177,7 @@ impl<D: Device> Session<D> {
                 if self.down.is_some() {
                     return Reply::Off;
                 }
-                match filled(alloc, *count, *byte) {
+                match fill(alloc, *count, *byte) {
                     Ok(text) => self.pwrite(alloc, fd, text.bytes(), offset),
                     Err(fault) => refuse(&mut self.down, fault),
                 }

@@ -1,7 +1,5 @@
 // The calls that take names away.
-ghost use Rattle.std.specs.Prelude.{◌≡◌, ◌≤◌, ◌<◌, ◌+◌, ◌-◌, ◌^◌};
-ghost use Rattle.kfs_tx.specs.Tx.{age_of, Aged};
-ghost use Rattle.kfs_posix.specs.Answering.{Counts, KeepsCause};
+ghost use Rattle.kfs_posix.specs.Answering.{Answers, IsYoung};
 
 use crate::removing::{rmdir, unlink};
 use crate::renaming::rename;
@@ -12,19 +10,11 @@ use std::alloc::Global;
 
 impl<D: Device> Session<D> {
     ghost use Rattle.kfs_path.specs.declared.call.Call.TheVariants as calls;
-    ghost use Rattle.kfs_model.specs.declared.Line.TheVariants as lines;
-    ghost use Rattle.kfs_model.specs.declared.Answer.TheVariants as answers;
-    ghost use Rattle.kfs_posix.specs.Volume.{running_in, limits_of};
-    ghost use Rattle.kfs_posix.specs.Showing.{GoesOn};
 
     /// Takes a file's name away.
     pub fn unlink(&mut self, alloc: Global, path: &[u8]) -> Reply
-        requires { age_of (running_in self.old) < 2 ^ 63 - 2 ^ 40 }
-        ensures goes_on { GoesOn self.old.volume (lines.Call (calls.Unlink path.now)) (answers.Reply result) self.new.volume }
-        ensures counts { Counts self.old.volume.tx.machine result self.new.volume.tx.machine }
-        ensures room { limits_of self.new.volume ≡ limits_of self.old.volume }
-        ensures down { KeepsCause self.old.volume result self.new.volume }
-        ensures age { Aged (running_in self.old) (running_in self.new) (2 ^ 38) }
+        requires { IsYoung self.old }
+        ensures { Answers self.old (calls.Unlink path.now) result self.new }
     {
         if self.down.is_some() {
             return Reply::Off;
@@ -37,12 +27,8 @@ impl<D: Device> Session<D> {
 
     /// Takes an empty directory's name away.
     pub fn rmdir(&mut self, alloc: Global, path: &[u8]) -> Reply
-        requires { age_of (running_in self.old) < 2 ^ 63 - 2 ^ 40 }
-        ensures goes_on { GoesOn self.old.volume (lines.Call (calls.Rmdir path.now)) (answers.Reply result) self.new.volume }
-        ensures counts { Counts self.old.volume.tx.machine result self.new.volume.tx.machine }
-        ensures room { limits_of self.new.volume ≡ limits_of self.old.volume }
-        ensures down { KeepsCause self.old.volume result self.new.volume }
-        ensures age { Aged (running_in self.old) (running_in self.new) (2 ^ 38) }
+        requires { IsYoung self.old }
+        ensures { Answers self.old (calls.Rmdir path.now) result self.new }
     {
         if self.down.is_some() {
             return Reply::Off;
@@ -55,12 +41,8 @@ impl<D: Device> Session<D> {
 
     /// Moves what a path names, with all below it, to another path, over what that names.
     pub fn rename(&mut self, alloc: Global, old: &[u8], new: &[u8]) -> Reply
-        requires { age_of (running_in self.old) < 2 ^ 63 - 2 ^ 40 }
-        ensures goes_on { GoesOn self.old.volume (lines.Call (calls.Rename old.now new.now)) (answers.Reply result) self.new.volume }
-        ensures counts { Counts self.old.volume.tx.machine result self.new.volume.tx.machine }
-        ensures room { limits_of self.new.volume ≡ limits_of self.old.volume }
-        ensures down { KeepsCause self.old.volume result self.new.volume }
-        ensures age { Aged (running_in self.old) (running_in self.new) (2 ^ 38) }
+        requires { IsYoung self.old }
+        ensures { Answers self.old (calls.Rename old.now new.now) result self.new }
     {
         if self.down.is_some() {
             return Reply::Off;

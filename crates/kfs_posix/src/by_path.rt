@@ -1,10 +1,8 @@
 // The calls by paths.
-ghost use Rattle.std.specs.Prelude.{◌≡◌, ◌≤◌, ◌<◌, ◌+◌, ◌-◌, ◌^◌};
-ghost use Rattle.kfs_tx.specs.Tx.{age_of, Aged};
-ghost use Rattle.kfs_posix.specs.Answering.{Counts, KeepsCause};
+ghost use Rattle.kfs_posix.specs.Answering.{Answers, HasFewKeys, IsYoung};
 
 use crate::opening::open;
-use crate::paths::{found, make, names};
+use crate::paths::{look_up, make, names};
 use crate::resizing::truncate;
 use crate::session::{Session, refuse};
 use kfs_path::{Flags, Reply};
@@ -13,19 +11,11 @@ use std::alloc::Global;
 
 impl<D: Device> Session<D> {
     ghost use Rattle.kfs_path.specs.declared.call.Call.TheVariants as calls;
-    ghost use Rattle.kfs_model.specs.declared.Line.TheVariants as lines;
-    ghost use Rattle.kfs_model.specs.declared.Answer.TheVariants as answers;
-    ghost use Rattle.kfs_posix.specs.Volume.{running_in, limits_of};
-    ghost use Rattle.kfs_posix.specs.Showing.{GoesOn};
 
     /// Makes a directory.
     pub fn mkdir(&mut self, alloc: Global, path: &[u8]) -> Reply
-        requires { age_of (running_in self.old) < 2 ^ 63 - 2 ^ 40 }
-        ensures goes_on { GoesOn self.old.volume (lines.Call (calls.Mkdir path.now)) (answers.Reply result) self.new.volume }
-        ensures counts { Counts self.old.volume.tx.machine result self.new.volume.tx.machine }
-        ensures room { limits_of self.new.volume ≡ limits_of self.old.volume }
-        ensures down { KeepsCause self.old.volume result self.new.volume }
-        ensures age { Aged (running_in self.old) (running_in self.new) (2 ^ 38) }
+        requires { IsYoung self.old }
+        ensures { Answers self.old (calls.Mkdir path.now) result self.new }
     {
         if self.down.is_some() {
             return Reply::Off;
@@ -38,17 +28,13 @@ impl<D: Device> Session<D> {
 
     /// What a path names.
     pub fn stat(&mut self, alloc: Global, path: &[u8]) -> Reply
-        requires { age_of (running_in self.old) < 2 ^ 63 - 2 ^ 40 }
-        ensures goes_on { GoesOn self.old.volume (lines.Call (calls.Stat path.now)) (answers.Reply result) self.new.volume }
-        ensures counts { Counts self.old.volume.tx.machine result self.new.volume.tx.machine }
-        ensures room { limits_of self.new.volume ≡ limits_of self.old.volume }
-        ensures down { KeepsCause self.old.volume result self.new.volume }
-        ensures age { Aged (running_in self.old) (running_in self.new) (2 ^ 38) }
+        requires { IsYoung self.old }
+        ensures { Answers self.old (calls.Stat path.now) result self.new }
     {
         if self.down.is_some() {
             return Reply::Off;
         }
-        match found(alloc, &mut self.kfs, path) {
+        match look_up(alloc, &mut self.kfs, path) {
             Ok((node, it)) => {
                 if it.kind == 1 {
                     return Reply::Dir { node };
@@ -64,13 +50,9 @@ impl<D: Device> Session<D> {
 
     /// The names in a directory, sorted by bytes.
     pub fn list(&mut self, alloc: Global, path: &[u8]) -> Reply
-        requires room { self.old.volume.keys ≤ 68544 }
-        requires age { age_of (running_in self.old) < 2 ^ 63 - 2 ^ 40 }
-        ensures goes_on { GoesOn self.old.volume (lines.Call (calls.List path.now)) (answers.Reply result) self.new.volume }
-        ensures counts { Counts self.old.volume.tx.machine result self.new.volume.tx.machine }
-        ensures room { limits_of self.new.volume ≡ limits_of self.old.volume }
-        ensures down { KeepsCause self.old.volume result self.new.volume }
-        ensures age { Aged (running_in self.old) (running_in self.new) (2 ^ 38) }
+        requires room { HasFewKeys self.old }
+        requires age { IsYoung self.old }
+        ensures { Answers self.old (calls.List path.now) result self.new }
     {
         if self.down.is_some() {
             return Reply::Off;
@@ -83,12 +65,8 @@ impl<D: Device> Session<D> {
 
     /// Opens what a path names, and makes a file or cuts it to no bytes where the flags say so.
     pub fn open(&mut self, alloc: Global, path: &[u8], flags: Flags) -> Reply
-        requires { age_of (running_in self.old) < 2 ^ 63 - 2 ^ 40 }
-        ensures goes_on { GoesOn self.old.volume (lines.Call (calls.Open path.now flags)) (answers.Reply result) self.new.volume }
-        ensures counts { Counts self.old.volume.tx.machine result self.new.volume.tx.machine }
-        ensures room { limits_of self.new.volume ≡ limits_of self.old.volume }
-        ensures down { KeepsCause self.old.volume result self.new.volume }
-        ensures age { Aged (running_in self.old) (running_in self.new) (2 ^ 38) }
+        requires { IsYoung self.old }
+        ensures { Answers self.old (calls.Open path.now flags) result self.new }
     {
         if self.down.is_some() {
             return Reply::Off;
@@ -103,12 +81,8 @@ impl<D: Device> Session<D> {
     /// where negative, those of the path, EISDIR, ENOTDIR for a file with a trailing slash, EFBIG above
     /// 1,048,576, ENOSPC without room.
     pub fn truncate(&mut self, alloc: Global, path: &[u8], length: i64) -> Reply
-        requires { age_of (running_in self.old) < 2 ^ 63 - 2 ^ 40 }
-        ensures goes_on { GoesOn self.old.volume (lines.Call (calls.Truncate path.now length)) (answers.Reply result) self.new.volume }
-        ensures counts { Counts self.old.volume.tx.machine result self.new.volume.tx.machine }
-        ensures room { limits_of self.new.volume ≡ limits_of self.old.volume }
-        ensures down { KeepsCause self.old.volume result self.new.volume }
-        ensures age { Aged (running_in self.old) (running_in self.new) (2 ^ 38) }
+        requires { IsYoung self.old }
+        ensures { Answers self.old (calls.Truncate path.now length) result self.new }
     {
         if self.down.is_some() {
             return Reply::Off;

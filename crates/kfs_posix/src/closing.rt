@@ -21,7 +21,7 @@ pub fn close<D: Device>(
     ensures does { CloseDoes kfs.old files.old.opens fd result kfs.new files.new.opens }
     ensures age { Aged kfs.old.running kfs.new.running (2 ^ 16) }
 {
-    let Some((number, file)) = files.opened(fd) else {
+    let Some((number, file)) = files.get(fd) else {
         return Err(CoreFault::No(Errno::EBADF));
     };
     files.close(fd, number);

@@ -61,7 +61,7 @@ impl OpenFiles {
     }
 
     /// The number of a descriptor's description, and that.
-    pub fn opened(&self, fd: u32) -> Option<(u64, OpenFile)>
+    pub fn get(&self, fd: u32) -> Option<(u64, OpenFile)>
         ensures open { result ≡ open_at self.now.opens fd }
         ensures low { OnSome result (fd < 64) }
     {

@@ -29,7 +29,7 @@ pub fn syntax(alloc: Global, bytes: &[u8]) -> Result<Path, CoreFault>
 }
 
 /// What a path names: the node, with its kind and length.
-pub fn found<D: Device>(
+pub fn look_up<D: Device>(
     alloc: Global,
     kfs: &mut Kfs<D>,
     path: &[u8],

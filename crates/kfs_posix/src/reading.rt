@@ -20,7 +20,7 @@ pub const MOST: u32 = 1 << 20;
 fn readable(files: &OpenFiles, fd: u32, count: u32) -> Result<(u64, OpenFile), Errno>
     ensures { result ≡ readable_in files.now.opens fd count }
 {
-    let Some((number, file)) = files.opened(fd) else {
+    let Some((number, file)) = files.get(fd) else {
         return Err(Errno::EBADF);
     };
     if !file.it.read {

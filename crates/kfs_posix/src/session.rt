@@ -3,9 +3,8 @@ ghost use Rattle.std.specs.Prelude.{◌≡◌, ◌≤◌, ◌<◌, ◌+◌, ◌-
 ghost use Rattle.kv_base.specs.Counts.{one_more};
 ghost use Rattle.kv_device.specs.Machine.{none_open, begun};
 ghost use Rattle.kv_device.specs.Calls.{Ages};
-ghost use Rattle.kfs_tx.specs.Tx.{age_of, Aged};
 ghost use Rattle.kfs_core.specs.Starting.{IsOutside, NotMounted};
-ghost use Rattle.kfs_posix.specs.Answering.{Asks, Counts, IsAnswerable, KeepsCause, refusal, down_after};
+ghost use Rattle.kfs_posix.specs.Answering.{Answers, Asks, HasFewKeys, IsAnswerable, IsYoung, refusal, down_after};
 ghost use Rattle.kfs_posix.specs.Volume.{cause_of};
 
 use crate::open_files::OpenFiles;
@@ -67,14 +66,11 @@ pub fn refuse(down: &mut Option<Cause>, fault: CoreFault) -> Reply
 
 impl<D: Device> Session<D> {
     ghost use Rattle.kfs_path.specs.declared.call.Call.TheVariants as calls;
-    ghost use Rattle.kfs_model.specs.declared.Line.TheVariants as lines;
-    ghost use Rattle.kfs_model.specs.declared.Answer.TheVariants as answers;
-    ghost use Rattle.kfs_posix.specs.Volume.{running_in, limits_of};
     ghost use Rattle.kfs_damages.specs.Damages.{IsClear};
     ghost use Rattle.kfs_judge.specs.Judging.{heard, room_in};
     ghost use Rattle.kfs_core.specs.Clearing.{Keeps};
     ghost use Rattle.kfs_posix.specs.Mounting.{Mounts};
-    ghost use Rattle.kfs_posix.specs.Showing.{GoesOn, IsShowing};
+    ghost use Rattle.kfs_posix.specs.Showing.{IsShowing};
 
     /// Goes on from the tree that the device holds, with no descriptor open. Objects that show none, or one
     /// without room, are refused with the first damage.
@@ -108,12 +104,8 @@ impl<D: Device> Session<D> {
 
     /// Commits all changes.
     pub fn sync(&mut self, alloc: Global) -> Reply
-        requires { age_of (running_in self.old) < 2 ^ 63 - 2 ^ 40 }
-        ensures goes_on { GoesOn self.old.volume (lines.Call calls.Sync) (answers.Reply result) self.new.volume }
-        ensures counts { Counts self.old.volume.tx.machine result self.new.volume.tx.machine }
-        ensures room { limits_of self.new.volume ≡ limits_of self.old.volume }
-        ensures down { KeepsCause self.old.volume result self.new.volume }
-        ensures age { Aged (running_in self.old) (running_in self.new) (2 ^ 38) }
+        requires { IsYoung self.old }
+        ensures { Answers self.old calls.Sync result self.new }
     {
         if self.down.is_some() {
             return Reply::Off;
@@ -126,9 +118,7 @@ impl<D: Device> Session<D> {
 
     /// What the tree takes of the keys and the pages, and how many there are. It takes no memory.
     pub fn room(&self) -> Reply
-        ensures goes_on { GoesOn self.now.volume (lines.Call calls.Room) (answers.Reply result) self.now.volume }
-        ensures counts { Counts self.now.volume.tx.machine result self.now.volume.tx.machine }
-        ensures down { KeepsCause self.now.volume result self.now.volume }
+        ensures { Answers self.now calls.Room result self.now }
     {
         if self.down.is_some() {
             return Reply::Off;
@@ -138,13 +128,9 @@ impl<D: Device> Session<D> {
 
     /// Does the call that is named.
     pub fn step(&mut self, alloc: Global, call: &Call) -> Reply
-        requires room { self.old.volume.keys ≤ 68544 }
-        requires age { age_of (running_in self.old) < 2 ^ 63 - 2 ^ 40 }
-        ensures goes_on { GoesOn self.old.volume (lines.Call call.now) (answers.Reply result) self.new.volume }
-        ensures counts { Counts self.old.volume.tx.machine result self.new.volume.tx.machine }
-        ensures room { limits_of self.new.volume ≡ limits_of self.old.volume }
-        ensures down { KeepsCause self.old.volume result self.new.volume }
-        ensures age { Aged (running_in self.old) (running_in self.new) (2 ^ 38) }
+        requires room { HasFewKeys self.old }
+        requires age { IsYoung self.old }
+        ensures answers { Answers self.old call.now result self.new }
         ensures asked { Asks call.now result self.new.asked }
     {
         match call {

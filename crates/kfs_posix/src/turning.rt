@@ -9,7 +9,7 @@ use kfs_path::{Errno, Reply, Whence};
 pub fn dup(files: &mut OpenFiles, fd: u32) -> Reply
     ensures { record { files = files.new.opens; reply = result } ≡ turned files.old.opens (dup_in files.old.opens fd) }
 {
-    let Some((number, _)) = files.opened(fd) else {
+    let Some((number, _)) = files.get(fd) else {
         return Reply::Err(Errno::EBADF);
     };
     let Some(new) = files.lowest_free() else {
@@ -34,7 +34,7 @@ fn base(file: &OpenFile, whence: Whence) -> u64
 pub fn lseek(files: &mut OpenFiles, fd: u32, whence: Whence, offset: i64) -> Reply
     ensures { record { files = files.new.opens; reply = result } ≡ turned files.old.opens (lseek_in files.old.opens fd whence offset) }
 {
-    let Some((number, file)) = files.opened(fd) else {
+    let Some((number, file)) = files.get(fd) else {
         return Reply::Err(Errno::EBADF);
     };
     let to = i128::from(base(&file, whence)) + i128::from(offset);
@@ -53,7 +53,7 @@ pub fn lseek(files: &mut OpenFiles, fd: u32, whence: Whence, offset: i64) -> Rep
 pub fn fstat(files: &OpenFiles, fd: u32) -> Reply
     ensures { record { files = files.now.opens; reply = result } ≡ turned files.now.opens (fstat_in files.now.opens fd) }
 {
-    let Some((_, file)) = files.opened(fd) else {
+    let Some((_, file)) = files.get(fd) else {
         return Reply::Err(Errno::EBADF);
     };
     if file.file {

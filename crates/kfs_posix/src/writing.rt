@@ -18,7 +18,7 @@ use std::alloc::Global;
 fn writable(files: &OpenFiles, fd: u32) -> Result<(u64, OpenFile), Errno>
     ensures { result ≡ writable_in files.now.opens fd }
 {
-    let Some((number, file)) = files.opened(fd) else {
+    let Some((number, file)) = files.get(fd) else {
         return Err(Errno::EBADF);
     };
     if !file.it.write {
@@ -126,7 +126,7 @@ pub fn pwrite<D: Device>(
 }
 
 /// One byte so many times, or once more than may be written at once where that is less.
-pub fn filled(alloc: Global, count: u32, byte: u8) -> Result<Text, CoreFault>
+pub fn fill(alloc: Global, count: u32, byte: u8) -> Result<Text, CoreFault>
     ensures ok { IfOk result (λ text. text ≡ replicate (min count 1048577) byte) }
     ensures err { IfErr result (λ fault. fault ≡ device.Device faults.Memory) }
 {

@@ -10,19 +10,13 @@ use Rattle.kfs_posix.specs.Resizing.{ftruncate_in, Resized, NotResized}
 use Rattle.kfs_posix.proofs.ResizeEvents.{ftruncate_resizing}
 use Rattle.kfs_posix.proofs.ResizeAnswers.{resize_answered, resize_failed}
 use Rattle.kfs_posix.proofs.Calls.{none_of}
-use Rattle.kfs_posix.proofs.Answered.{off_goes, off_keeps, aged_none, aged_by, age_in}
+use Rattle.kfs_posix.proofs.Answered.{age_in, answers_of, off_answers}
 use Rattle.kfs_posix.proofs.session.Session.ftruncate.Goals as goal
 use Rattle.kfs_posix.proofs.Shown.{showing_after, showing_in, awake_in}
 use Rattle.kfs_posix.specs.Answering.{refusal, down_after}
 
-pub returns-then-is_some-clause-goes_on : goal.returns-then-is_some-clause-goes_on
-returns-then-is_some-clause-goes_on g c = off_goes c.args.self.now c.self.inside.kfs c.self.inside.files.opens c.self.inside.down (calls.Ftruncate c.args.fd c.args.length) c.self.view_is c.if-is_some.ensures
-
-pub returns-then-is_some-clause-down : goal.returns-then-is_some-clause-down
-returns-then-is_some-clause-down g c = off_keeps c.args.self.now c.self.inside.kfs c.self.inside.files.opens c.self.inside.down c.self.view_is c.if-is_some.ensures
-
-pub returns-then-is_some-clause-age : goal.returns-then-is_some-clause-age
-returns-then-is_some-clause-age g c = aged_none _
+pub returns-then-is_some : goal.returns-then-is_some
+returns-then-is_some g c = off_answers c.args.self.now c.self.inside.kfs c.self.inside.files.opens c.self.inside.down (calls.Ftruncate c.args.fd c.args.length) c.self.view_is c.if-is_some.ensures
 
 pub ftruncate-requires : goal.ftruncate-requires
 ftruncate-requires g c = age_in c.args.self.now c.self.inside.kfs c.self.inside.files.opens c.self.inside.down c.self.view_is c.requires
@@ -33,29 +27,11 @@ refuse-requires g c = (resize_failed c.args.self.now c.self.inside.kfs c.ftrunca
 pub invariant_of-self-in-Err : goal.invariant_of-self-in-Err
 invariant_of-self-in-Err g c = showing_after c.args.self.now c.self.inside.kfs c.self.inside.files.opens c.self.inside.down c.self.view_is (none_of c.self.inside.down c.if-is_some.ensures) c.self.invariant _ _ _ (resize_failed c.args.self.now c.self.inside.kfs c.ftruncate.new.kfs c.self.inside.files.opens c.ftruncate.new.files.opens c.self.inside.down c.self.view_is (none_of c.self.inside.down c.if-is_some.ensures) (awake_in (volume_of c.self.inside.kfs c.self.inside.files.opens c.self.inside.down) c.self.invariant (none_of c.self.inside.down c.if-is_some.ensures)) c.requires (calls.Ftruncate c.args.fd c.args.length) (ftruncate_in (seen (tx_in c.self.inside.kfs)) (space_in c.self.inside.kfs) c.self.inside.files.opens c.args.fd c.args.length) (natural c.args.length) (ftruncate_resizing (volume_of c.self.inside.kfs c.self.inside.files.opens c.self.inside.down) c.args.fd c.args.length) c.in-Err.fault c.refuse.result c.refuse.new.down (subst (λ z. NotResized c.self.inside.kfs c.self.inside.files.opens (ftruncate_in (seen (tx_in c.self.inside.kfs)) (space_in c.self.inside.kfs) c.self.inside.files.opens c.args.fd z) (natural z) c.in-Err.fault c.ftruncate.new.kfs c.ftruncate.new.files.opens) (to_z-of_z w64 c.args.length c.ranges.length) c.in-Err.ensures.does) c.refuse.ensures.reply c.refuse.ensures.down).happens.goes
 
-pub returns-in-Err-clause-goes_on : goal.returns-in-Err-clause-goes_on
-returns-in-Err-clause-goes_on g c = (resize_failed c.args.self.now c.self.inside.kfs c.ftruncate.new.kfs c.self.inside.files.opens c.ftruncate.new.files.opens c.self.inside.down c.self.view_is (none_of c.self.inside.down c.if-is_some.ensures) (awake_in (volume_of c.self.inside.kfs c.self.inside.files.opens c.self.inside.down) c.self.invariant (none_of c.self.inside.down c.if-is_some.ensures)) c.requires (calls.Ftruncate c.args.fd c.args.length) (ftruncate_in (seen (tx_in c.self.inside.kfs)) (space_in c.self.inside.kfs) c.self.inside.files.opens c.args.fd c.args.length) (natural c.args.length) (ftruncate_resizing (volume_of c.self.inside.kfs c.self.inside.files.opens c.self.inside.down) c.args.fd c.args.length) c.in-Err.fault c.refuse.result c.refuse.new.down (subst (λ z. NotResized c.self.inside.kfs c.self.inside.files.opens (ftruncate_in (seen (tx_in c.self.inside.kfs)) (space_in c.self.inside.kfs) c.self.inside.files.opens c.args.fd z) (natural z) c.in-Err.fault c.ftruncate.new.kfs c.ftruncate.new.files.opens) (to_z-of_z w64 c.args.length c.ranges.length) c.in-Err.ensures.does) c.refuse.ensures.reply c.refuse.ensures.down).happens.goes
-
-pub returns-in-Err-clause-counts : goal.returns-in-Err-clause-counts
-returns-in-Err-clause-counts g c = (resize_failed c.args.self.now c.self.inside.kfs c.ftruncate.new.kfs c.self.inside.files.opens c.ftruncate.new.files.opens c.self.inside.down c.self.view_is (none_of c.self.inside.down c.if-is_some.ensures) (awake_in (volume_of c.self.inside.kfs c.self.inside.files.opens c.self.inside.down) c.self.invariant (none_of c.self.inside.down c.if-is_some.ensures)) c.requires (calls.Ftruncate c.args.fd c.args.length) (ftruncate_in (seen (tx_in c.self.inside.kfs)) (space_in c.self.inside.kfs) c.self.inside.files.opens c.args.fd c.args.length) (natural c.args.length) (ftruncate_resizing (volume_of c.self.inside.kfs c.self.inside.files.opens c.self.inside.down) c.args.fd c.args.length) c.in-Err.fault c.refuse.result c.refuse.new.down (subst (λ z. NotResized c.self.inside.kfs c.self.inside.files.opens (ftruncate_in (seen (tx_in c.self.inside.kfs)) (space_in c.self.inside.kfs) c.self.inside.files.opens c.args.fd z) (natural z) c.in-Err.fault c.ftruncate.new.kfs c.ftruncate.new.files.opens) (to_z-of_z w64 c.args.length c.ranges.length) c.in-Err.ensures.does) c.refuse.ensures.reply c.refuse.ensures.down).happens.counts
-
-pub returns-in-Err-clause-down : goal.returns-in-Err-clause-down
-returns-in-Err-clause-down g c = (resize_failed c.args.self.now c.self.inside.kfs c.ftruncate.new.kfs c.self.inside.files.opens c.ftruncate.new.files.opens c.self.inside.down c.self.view_is (none_of c.self.inside.down c.if-is_some.ensures) (awake_in (volume_of c.self.inside.kfs c.self.inside.files.opens c.self.inside.down) c.self.invariant (none_of c.self.inside.down c.if-is_some.ensures)) c.requires (calls.Ftruncate c.args.fd c.args.length) (ftruncate_in (seen (tx_in c.self.inside.kfs)) (space_in c.self.inside.kfs) c.self.inside.files.opens c.args.fd c.args.length) (natural c.args.length) (ftruncate_resizing (volume_of c.self.inside.kfs c.self.inside.files.opens c.self.inside.down) c.args.fd c.args.length) c.in-Err.fault c.refuse.result c.refuse.new.down (subst (λ z. NotResized c.self.inside.kfs c.self.inside.files.opens (ftruncate_in (seen (tx_in c.self.inside.kfs)) (space_in c.self.inside.kfs) c.self.inside.files.opens c.args.fd z) (natural z) c.in-Err.fault c.ftruncate.new.kfs c.ftruncate.new.files.opens) (to_z-of_z w64 c.args.length c.ranges.length) c.in-Err.ensures.does) c.refuse.ensures.reply c.refuse.ensures.down).happens.keeps
-
-pub returns-in-Err-clause-age : goal.returns-in-Err-clause-age
-returns-in-Err-clause-age g c = aged_by c.args.self.now c.self.inside.kfs c.ftruncate.new.kfs c.self.inside.files.opens c.self.inside.down (2 ^ 17) (omega arith) c.self.view_is c.in-Err.ensures.age
+pub returns-in-Err : goal.returns-in-Err
+returns-in-Err g c = answers_of c.args.self.now c.self.inside.kfs c.ftruncate.new.kfs c.self.inside.files.opens _ c.self.inside.down _ _ _ (2 ^ 17) (omega arith) c.self.view_is c.in-Err.ensures.age (resize_failed c.args.self.now c.self.inside.kfs c.ftruncate.new.kfs c.self.inside.files.opens c.ftruncate.new.files.opens c.self.inside.down c.self.view_is (none_of c.self.inside.down c.if-is_some.ensures) (awake_in (volume_of c.self.inside.kfs c.self.inside.files.opens c.self.inside.down) c.self.invariant (none_of c.self.inside.down c.if-is_some.ensures)) c.requires (calls.Ftruncate c.args.fd c.args.length) (ftruncate_in (seen (tx_in c.self.inside.kfs)) (space_in c.self.inside.kfs) c.self.inside.files.opens c.args.fd c.args.length) (natural c.args.length) (ftruncate_resizing (volume_of c.self.inside.kfs c.self.inside.files.opens c.self.inside.down) c.args.fd c.args.length) c.in-Err.fault c.refuse.result c.refuse.new.down (subst (λ z. NotResized c.self.inside.kfs c.self.inside.files.opens (ftruncate_in (seen (tx_in c.self.inside.kfs)) (space_in c.self.inside.kfs) c.self.inside.files.opens c.args.fd z) (natural z) c.in-Err.fault c.ftruncate.new.kfs c.ftruncate.new.files.opens) (to_z-of_z w64 c.args.length c.ranges.length) c.in-Err.ensures.does) c.refuse.ensures.reply c.refuse.ensures.down).happens
 
 pub invariant_of-self : goal.invariant_of-self
 invariant_of-self g c = showing_after c.args.self.now c.self.inside.kfs c.self.inside.files.opens c.self.inside.down c.self.view_is (none_of c.self.inside.down c.if-is_some.ensures) c.self.invariant _ _ _ (resize_answered c.args.self.now c.self.inside.kfs c.ftruncate.new.kfs c.self.inside.files.opens c.ftruncate.new.files.opens c.self.inside.down c.self.view_is (none_of c.self.inside.down c.if-is_some.ensures) (awake_in (volume_of c.self.inside.kfs c.self.inside.files.opens c.self.inside.down) c.self.invariant (none_of c.self.inside.down c.if-is_some.ensures)) c.requires (calls.Ftruncate c.args.fd c.args.length) (ftruncate_in (seen (tx_in c.self.inside.kfs)) (space_in c.self.inside.kfs) c.self.inside.files.opens c.args.fd c.args.length) (natural c.args.length) (ftruncate_resizing (volume_of c.self.inside.kfs c.self.inside.files.opens c.self.inside.down) c.args.fd c.args.length) (subst (λ z. Resized c.self.inside.kfs c.self.inside.files.opens (ftruncate_in (seen (tx_in c.self.inside.kfs)) (space_in c.self.inside.kfs) c.self.inside.files.opens c.args.fd z) (natural z) c.ftruncate.new.kfs c.ftruncate.new.files.opens) (to_z-of_z w64 c.args.length c.ranges.length) c.in-Ok.ensures.does)).goes
 
-pub returns-in-Ok-clause-goes_on : goal.returns-in-Ok-clause-goes_on
-returns-in-Ok-clause-goes_on g c = (resize_answered c.args.self.now c.self.inside.kfs c.ftruncate.new.kfs c.self.inside.files.opens c.ftruncate.new.files.opens c.self.inside.down c.self.view_is (none_of c.self.inside.down c.if-is_some.ensures) (awake_in (volume_of c.self.inside.kfs c.self.inside.files.opens c.self.inside.down) c.self.invariant (none_of c.self.inside.down c.if-is_some.ensures)) c.requires (calls.Ftruncate c.args.fd c.args.length) (ftruncate_in (seen (tx_in c.self.inside.kfs)) (space_in c.self.inside.kfs) c.self.inside.files.opens c.args.fd c.args.length) (natural c.args.length) (ftruncate_resizing (volume_of c.self.inside.kfs c.self.inside.files.opens c.self.inside.down) c.args.fd c.args.length) (subst (λ z. Resized c.self.inside.kfs c.self.inside.files.opens (ftruncate_in (seen (tx_in c.self.inside.kfs)) (space_in c.self.inside.kfs) c.self.inside.files.opens c.args.fd z) (natural z) c.ftruncate.new.kfs c.ftruncate.new.files.opens) (to_z-of_z w64 c.args.length c.ranges.length) c.in-Ok.ensures.does)).goes
-
-pub returns-in-Ok-clause-counts : goal.returns-in-Ok-clause-counts
-returns-in-Ok-clause-counts g c = (resize_answered c.args.self.now c.self.inside.kfs c.ftruncate.new.kfs c.self.inside.files.opens c.ftruncate.new.files.opens c.self.inside.down c.self.view_is (none_of c.self.inside.down c.if-is_some.ensures) (awake_in (volume_of c.self.inside.kfs c.self.inside.files.opens c.self.inside.down) c.self.invariant (none_of c.self.inside.down c.if-is_some.ensures)) c.requires (calls.Ftruncate c.args.fd c.args.length) (ftruncate_in (seen (tx_in c.self.inside.kfs)) (space_in c.self.inside.kfs) c.self.inside.files.opens c.args.fd c.args.length) (natural c.args.length) (ftruncate_resizing (volume_of c.self.inside.kfs c.self.inside.files.opens c.self.inside.down) c.args.fd c.args.length) (subst (λ z. Resized c.self.inside.kfs c.self.inside.files.opens (ftruncate_in (seen (tx_in c.self.inside.kfs)) (space_in c.self.inside.kfs) c.self.inside.files.opens c.args.fd z) (natural z) c.ftruncate.new.kfs c.ftruncate.new.files.opens) (to_z-of_z w64 c.args.length c.ranges.length) c.in-Ok.ensures.does)).counts
-
-pub returns-in-Ok-clause-down : goal.returns-in-Ok-clause-down
-returns-in-Ok-clause-down g c = (resize_answered c.args.self.now c.self.inside.kfs c.ftruncate.new.kfs c.self.inside.files.opens c.ftruncate.new.files.opens c.self.inside.down c.self.view_is (none_of c.self.inside.down c.if-is_some.ensures) (awake_in (volume_of c.self.inside.kfs c.self.inside.files.opens c.self.inside.down) c.self.invariant (none_of c.self.inside.down c.if-is_some.ensures)) c.requires (calls.Ftruncate c.args.fd c.args.length) (ftruncate_in (seen (tx_in c.self.inside.kfs)) (space_in c.self.inside.kfs) c.self.inside.files.opens c.args.fd c.args.length) (natural c.args.length) (ftruncate_resizing (volume_of c.self.inside.kfs c.self.inside.files.opens c.self.inside.down) c.args.fd c.args.length) (subst (λ z. Resized c.self.inside.kfs c.self.inside.files.opens (ftruncate_in (seen (tx_in c.self.inside.kfs)) (space_in c.self.inside.kfs) c.self.inside.files.opens c.args.fd z) (natural z) c.ftruncate.new.kfs c.ftruncate.new.files.opens) (to_z-of_z w64 c.args.length c.ranges.length) c.in-Ok.ensures.does)).keeps
-
-pub returns-in-Ok-clause-age : goal.returns-in-Ok-clause-age
-returns-in-Ok-clause-age g c = aged_by c.args.self.now c.self.inside.kfs c.ftruncate.new.kfs c.self.inside.files.opens c.self.inside.down (2 ^ 17) (omega arith) c.self.view_is c.in-Ok.ensures.age
+pub returns-in-Ok : goal.returns-in-Ok
+returns-in-Ok g c = answers_of c.args.self.now c.self.inside.kfs c.ftruncate.new.kfs c.self.inside.files.opens _ c.self.inside.down _ _ _ (2 ^ 17) (omega arith) c.self.view_is c.in-Ok.ensures.age (resize_answered c.args.self.now c.self.inside.kfs c.ftruncate.new.kfs c.self.inside.files.opens c.ftruncate.new.files.opens c.self.inside.down c.self.view_is (none_of c.self.inside.down c.if-is_some.ensures) (awake_in (volume_of c.self.inside.kfs c.self.inside.files.opens c.self.inside.down) c.self.invariant (none_of c.self.inside.down c.if-is_some.ensures)) c.requires (calls.Ftruncate c.args.fd c.args.length) (ftruncate_in (seen (tx_in c.self.inside.kfs)) (space_in c.self.inside.kfs) c.self.inside.files.opens c.args.fd c.args.length) (natural c.args.length) (ftruncate_resizing (volume_of c.self.inside.kfs c.self.inside.files.opens c.self.inside.down) c.args.fd c.args.length) (subst (λ z. Resized c.self.inside.kfs c.self.inside.files.opens (ftruncate_in (seen (tx_in c.self.inside.kfs)) (space_in c.self.inside.kfs) c.self.inside.files.opens c.args.fd z) (natural z) c.ftruncate.new.kfs c.ftruncate.new.files.opens) (to_z-of_z w64 c.args.length c.ranges.length) c.in-Ok.ensures.does))

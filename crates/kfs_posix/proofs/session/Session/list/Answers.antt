@@ -1,56 +1,29 @@
 use Rattle.std.proofs.Common.{ap, arith, refl}
 use Rattle.kfs_path.specs.declared.call.Call.TheVariants as calls
-use Rattle.kfs_tx.specs.Tx.{Tx}
-use Rattle.kfs_core.specs.Core.{tx_in}
 use Rattle.kfs_posix.proofs.Calls.{none_of}
-use Rattle.kfs_posix.proofs.Fault.{counts_by, keeps_by, none_kept, counts_same, read_counts}
-use Rattle.kfs_posix.proofs.Answered.{off_goes, off_keeps, aged_none, aged_by, age_in, keys_in, list_answered, list_refused}
+use Rattle.kfs_posix.proofs.Answered.{age_in, keys_in, list_answered, list_refused, off_answers, answers_of}
 use Rattle.kfs_posix.proofs.session.Session.list.Goals as goal
 use Rattle.kfs_posix.proofs.Shown.{showing_after, showing_in, awake_in}
 use Rattle.kfs_posix.specs.Volume.{volume_of}
 use Rattle.kfs_posix.specs.Answering.{refusal, down_after}
 
-pub returns-then-is_some-clause-goes_on : goal.returns-then-is_some-clause-goes_on
-returns-then-is_some-clause-goes_on g c = off_goes c.args.self.now c.self.inside.kfs c.self.inside.files.opens c.self.inside.down (calls.List c.args.path.now) c.self.view_is c.if-is_some.ensures
-
-pub returns-then-is_some-clause-down : goal.returns-then-is_some-clause-down
-returns-then-is_some-clause-down g c = off_keeps c.args.self.now c.self.inside.kfs c.self.inside.files.opens c.self.inside.down c.self.view_is c.if-is_some.ensures
-
-pub returns-then-is_some-clause-age : goal.returns-then-is_some-clause-age
-returns-then-is_some-clause-age g c = aged_none _
+pub returns-then-is_some : goal.returns-then-is_some
+returns-then-is_some g c = off_answers c.args.self.now c.self.inside.kfs c.self.inside.files.opens c.self.inside.down (calls.List c.args.path.now) c.self.view_is c.if-is_some.ensures
 
 pub names-requires : goal.names-requires
 names-requires g c = age_in c.args.self.now c.self.inside.kfs c.self.inside.files.opens c.self.inside.down c.self.view_is c.requires.age
 
 pub refuse-requires : goal.refuse-requires
-refuse-requires g c = (list_refused c.args.self.now c.self.inside.kfs c.names.new.kfs c.self.inside.files.opens c.self.inside.down c.self.view_is (none_of c.self.inside.down c.if-is_some.ensures) c.in-Err.ensures.rest c.args.path.now (refusal c.in-Err.fault) c.in-Err.fault (down_after c.self.inside.down c.in-Err.fault) (keys_in c.args.self.now c.self.inside.kfs c.self.inside.files.opens c.self.inside.down c.self.view_is c.requires.room) c.in-Err.ensures.gives c.in-Err.ensures.leaves refl refl).answerable (showing_in c.args.self.now c.self.inside.kfs c.self.inside.files.opens c.self.inside.down c.self.view_is c.self.invariant)
+refuse-requires g c = (list_refused c.args.self.now c.self.inside.kfs c.names.new.kfs c.self.inside.files.opens c.self.inside.down c.self.view_is (none_of c.self.inside.down c.if-is_some.ensures) (awake_in (volume_of c.self.inside.kfs c.self.inside.files.opens c.self.inside.down) c.self.invariant (none_of c.self.inside.down c.if-is_some.ensures)) c.in-Err.ensures.rest c.args.path.now (refusal c.in-Err.fault) c.in-Err.fault (down_after c.self.inside.down c.in-Err.fault) (keys_in c.args.self.now c.self.inside.kfs c.self.inside.files.opens c.self.inside.down c.self.view_is c.requires.room) c.in-Err.ensures.gives c.in-Err.ensures.leaves refl refl).answerable (showing_in c.args.self.now c.self.inside.kfs c.self.inside.files.opens c.self.inside.down c.self.view_is c.self.invariant)
 
 pub invariant_of-self-in-Err : goal.invariant_of-self-in-Err
-invariant_of-self-in-Err g c = showing_after c.args.self.now c.self.inside.kfs c.self.inside.files.opens c.self.inside.down c.self.view_is (none_of c.self.inside.down c.if-is_some.ensures) c.self.invariant _ _ _ (list_refused c.args.self.now c.self.inside.kfs c.names.new.kfs c.self.inside.files.opens c.self.inside.down c.self.view_is (none_of c.self.inside.down c.if-is_some.ensures) c.in-Err.ensures.rest c.args.path.now c.refuse.result c.in-Err.fault c.refuse.new.down (keys_in c.args.self.now c.self.inside.kfs c.self.inside.files.opens c.self.inside.down c.self.view_is c.requires.room) c.in-Err.ensures.gives c.in-Err.ensures.leaves c.refuse.ensures.reply c.refuse.ensures.down).goes
+invariant_of-self-in-Err g c = showing_after c.args.self.now c.self.inside.kfs c.self.inside.files.opens c.self.inside.down c.self.view_is (none_of c.self.inside.down c.if-is_some.ensures) c.self.invariant _ _ _ (list_refused c.args.self.now c.self.inside.kfs c.names.new.kfs c.self.inside.files.opens c.self.inside.down c.self.view_is (none_of c.self.inside.down c.if-is_some.ensures) (awake_in (volume_of c.self.inside.kfs c.self.inside.files.opens c.self.inside.down) c.self.invariant (none_of c.self.inside.down c.if-is_some.ensures)) c.in-Err.ensures.rest c.args.path.now c.refuse.result c.in-Err.fault c.refuse.new.down (keys_in c.args.self.now c.self.inside.kfs c.self.inside.files.opens c.self.inside.down c.self.view_is c.requires.room) c.in-Err.ensures.gives c.in-Err.ensures.leaves c.refuse.ensures.reply c.refuse.ensures.down).happens.goes
 
-pub returns-in-Err-clause-goes_on : goal.returns-in-Err-clause-goes_on
-returns-in-Err-clause-goes_on g c = (list_refused c.args.self.now c.self.inside.kfs c.names.new.kfs c.self.inside.files.opens c.self.inside.down c.self.view_is (none_of c.self.inside.down c.if-is_some.ensures) c.in-Err.ensures.rest c.args.path.now c.refuse.result c.in-Err.fault c.refuse.new.down (keys_in c.args.self.now c.self.inside.kfs c.self.inside.files.opens c.self.inside.down c.self.view_is c.requires.room) c.in-Err.ensures.gives c.in-Err.ensures.leaves c.refuse.ensures.reply c.refuse.ensures.down).goes
-
-pub returns-in-Err-clause-counts : goal.returns-in-Err-clause-counts
-returns-in-Err-clause-counts g c = counts_by c.args.self.now c.self.inside.kfs c.self.inside.files.opens c.self.inside.down c.refuse.result c.in-Err.fault c.names.new.kfs.running.tx.machine c.self.view_is c.refuse.ensures.reply (read_counts (tx_in c.self.inside.kfs) (tx_in c.names.new.kfs) c.in-Err.fault (awake_in (volume_of c.self.inside.kfs c.self.inside.files.opens c.self.inside.down) c.self.invariant (none_of c.self.inside.down c.if-is_some.ensures)) c.in-Err.ensures.leaves)
-
-pub returns-in-Err-clause-down : goal.returns-in-Err-clause-down
-returns-in-Err-clause-down g c = keeps_by c.args.self.now c.self.inside.kfs c.names.new.kfs c.self.inside.files.opens c.self.inside.down c.refuse.new.down c.refuse.result c.in-Err.fault c.self.view_is (none_of c.self.inside.down c.if-is_some.ensures) c.refuse.ensures.reply c.refuse.ensures.down
-
-pub returns-in-Err-clause-age : goal.returns-in-Err-clause-age
-returns-in-Err-clause-age g c = aged_by c.args.self.now c.self.inside.kfs c.names.new.kfs c.self.inside.files.opens c.self.inside.down (0) (omega arith) c.self.view_is c.in-Err.ensures.age
+pub returns-in-Err : goal.returns-in-Err
+returns-in-Err g c = answers_of c.args.self.now c.self.inside.kfs c.names.new.kfs c.self.inside.files.opens _ c.self.inside.down _ _ _ (0) (omega arith) c.self.view_is c.in-Err.ensures.age (list_refused c.args.self.now c.self.inside.kfs c.names.new.kfs c.self.inside.files.opens c.self.inside.down c.self.view_is (none_of c.self.inside.down c.if-is_some.ensures) (awake_in (volume_of c.self.inside.kfs c.self.inside.files.opens c.self.inside.down) c.self.invariant (none_of c.self.inside.down c.if-is_some.ensures)) c.in-Err.ensures.rest c.args.path.now c.refuse.result c.in-Err.fault c.refuse.new.down (keys_in c.args.self.now c.self.inside.kfs c.self.inside.files.opens c.self.inside.down c.self.view_is c.requires.room) c.in-Err.ensures.gives c.in-Err.ensures.leaves c.refuse.ensures.reply c.refuse.ensures.down).happens
 
 pub invariant_of-self : goal.invariant_of-self
-invariant_of-self g c = showing_after c.args.self.now c.self.inside.kfs c.self.inside.files.opens c.self.inside.down c.self.view_is (none_of c.self.inside.down c.if-is_some.ensures) c.self.invariant _ _ _ (list_answered c.args.self.now c.self.inside.kfs c.names.new.kfs c.self.inside.files.opens c.self.inside.down c.self.view_is (none_of c.self.inside.down c.if-is_some.ensures) c.in-Ok.ensures.rest c.args.path.now c.in-Ok.names (keys_in c.args.self.now c.self.inside.kfs c.self.inside.files.opens c.self.inside.down c.self.view_is c.requires.room) c.in-Ok.ensures.gives c.in-Ok.ensures.leaves)
+invariant_of-self g c = showing_after c.args.self.now c.self.inside.kfs c.self.inside.files.opens c.self.inside.down c.self.view_is (none_of c.self.inside.down c.if-is_some.ensures) c.self.invariant _ _ _ (list_answered c.args.self.now c.self.inside.kfs c.names.new.kfs c.self.inside.files.opens c.self.inside.down c.self.view_is (none_of c.self.inside.down c.if-is_some.ensures) (awake_in (volume_of c.self.inside.kfs c.self.inside.files.opens c.self.inside.down) c.self.invariant (none_of c.self.inside.down c.if-is_some.ensures)) c.in-Ok.ensures.rest c.args.path.now c.in-Ok.names (keys_in c.args.self.now c.self.inside.kfs c.self.inside.files.opens c.self.inside.down c.self.view_is c.requires.room) c.in-Ok.ensures.gives c.in-Ok.ensures.leaves).goes
 
-pub returns-in-Ok-clause-goes_on : goal.returns-in-Ok-clause-goes_on
-returns-in-Ok-clause-goes_on g c = list_answered c.args.self.now c.self.inside.kfs c.names.new.kfs c.self.inside.files.opens c.self.inside.down c.self.view_is (none_of c.self.inside.down c.if-is_some.ensures) c.in-Ok.ensures.rest c.args.path.now c.in-Ok.names (keys_in c.args.self.now c.self.inside.kfs c.self.inside.files.opens c.self.inside.down c.self.view_is c.requires.room) c.in-Ok.ensures.gives c.in-Ok.ensures.leaves
-
-pub returns-in-Ok-clause-counts : goal.returns-in-Ok-clause-counts
-returns-in-Ok-clause-counts g c = counts_same c.args.self.now c.self.inside.kfs c.self.inside.files.opens c.self.inside.down c.names.new.kfs.running.tx.machine c.self.view_is (ap (λ (r : Tx). r.machine.cuts) c.in-Ok.ensures.leaves) (ap (λ (r : Tx). r.machine.faults) c.in-Ok.ensures.leaves)
-
-pub returns-in-Ok-clause-down : goal.returns-in-Ok-clause-down
-returns-in-Ok-clause-down g c = none_kept c.args.self.now c.self.inside.kfs c.self.inside.files.opens c.self.inside.down c.self.view_is (none_of c.self.inside.down c.if-is_some.ensures)
-
-pub returns-in-Ok-clause-age : goal.returns-in-Ok-clause-age
-returns-in-Ok-clause-age g c = aged_by c.args.self.now c.self.inside.kfs c.names.new.kfs c.self.inside.files.opens c.self.inside.down (0) (omega arith) c.self.view_is c.in-Ok.ensures.age
+pub returns-in-Ok : goal.returns-in-Ok
+returns-in-Ok g c = answers_of c.args.self.now c.self.inside.kfs c.names.new.kfs c.self.inside.files.opens _ c.self.inside.down _ _ _ (0) (omega arith) c.self.view_is c.in-Ok.ensures.age (list_answered c.args.self.now c.self.inside.kfs c.names.new.kfs c.self.inside.files.opens c.self.inside.down c.self.view_is (none_of c.self.inside.down c.if-is_some.ensures) (awake_in (volume_of c.self.inside.kfs c.self.inside.files.opens c.self.inside.down) c.self.invariant (none_of c.self.inside.down c.if-is_some.ensures)) c.in-Ok.ensures.rest c.args.path.now c.in-Ok.names (keys_in c.args.self.now c.self.inside.kfs c.self.inside.files.opens c.self.inside.down c.self.view_is c.requires.room) c.in-Ok.ensures.gives c.in-Ok.ensures.leaves)

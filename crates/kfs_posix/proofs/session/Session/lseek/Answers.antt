@@ -3,28 +3,16 @@ use Rattle.std.proofs.lemmas.Int.{to_z-of_z}
 use Rattle.kfs_path.specs.declared.call.Call.TheVariants as calls
 use Rattle.kfs_posix.specs.Turning.{turned, lseek_in}
 use Rattle.kfs_posix.proofs.Calls.{none_of}
-use Rattle.kfs_posix.proofs.Turns.{lseek_turns, turned_goes, turned_counts, turned_keeps}
-use Rattle.kfs_posix.proofs.Answered.{off_goes, off_keeps, aged_none}
+use Rattle.kfs_posix.proofs.Turns.{lseek_turns, turned_goes}
+use Rattle.kfs_posix.proofs.Answered.{off_answers, turned_answers}
 use Rattle.kfs_posix.proofs.session.Session.lseek.Goals as goal
 use Rattle.kfs_posix.proofs.Shown.{showing_after}
 
-pub returns-then-is_some-clause-goes_on : goal.returns-then-is_some-clause-goes_on
-returns-then-is_some-clause-goes_on g c = off_goes c.args.self.now c.self.inside.kfs c.self.inside.files.opens c.self.inside.down (calls.Lseek c.args.fd c.args.whence c.args.offset) c.self.view_is c.if-is_some.ensures
-
-pub returns-then-is_some-clause-down : goal.returns-then-is_some-clause-down
-returns-then-is_some-clause-down g c = off_keeps c.args.self.now c.self.inside.kfs c.self.inside.files.opens c.self.inside.down c.self.view_is c.if-is_some.ensures
-
-pub returns-then-is_some-clause-age : goal.returns-then-is_some-clause-age
-returns-then-is_some-clause-age g c = aged_none _
+pub returns-then-is_some : goal.returns-then-is_some
+returns-then-is_some g c = off_answers c.args.self.now c.self.inside.kfs c.self.inside.files.opens c.self.inside.down (calls.Lseek c.args.fd c.args.whence c.args.offset) c.self.view_is c.if-is_some.ensures
 
 pub invariant_of-self : goal.invariant_of-self
 invariant_of-self g c = showing_after c.args.self.now c.self.inside.kfs c.self.inside.files.opens c.self.inside.down c.self.view_is (none_of c.self.inside.down c.if-is_some.ensures) c.self.invariant _ _ _ (turned_goes c.args.self.now c.self.inside.kfs c.self.inside.files.opens c.lseek.new.files.opens c.self.inside.down c.self.view_is (none_of c.self.inside.down c.if-is_some.ensures) (calls.Lseek c.args.fd c.args.whence c.args.offset) c.lseek.result (lseek_in c.self.inside.files.opens c.args.fd c.args.whence c.args.offset) (lseek_turns c.self.inside.files.opens c.args.fd c.args.whence c.args.offset) (c.lseek.ensures ∙ ap (λ z. turned c.self.inside.files.opens (lseek_in c.self.inside.files.opens c.args.fd c.args.whence z)) (to_z-of_z w64 c.args.offset c.ranges.offset)))
 
-pub returns-clause-goes_on : goal.returns-clause-goes_on
-returns-clause-goes_on g c = turned_goes c.args.self.now c.self.inside.kfs c.self.inside.files.opens c.lseek.new.files.opens c.self.inside.down c.self.view_is (none_of c.self.inside.down c.if-is_some.ensures) (calls.Lseek c.args.fd c.args.whence c.args.offset) c.lseek.result (lseek_in c.self.inside.files.opens c.args.fd c.args.whence c.args.offset) (lseek_turns c.self.inside.files.opens c.args.fd c.args.whence c.args.offset) (c.lseek.ensures ∙ ap (λ z. turned c.self.inside.files.opens (lseek_in c.self.inside.files.opens c.args.fd c.args.whence z)) (to_z-of_z w64 c.args.offset c.ranges.offset))
-
-pub returns-clause-counts : goal.returns-clause-counts
-returns-clause-counts g c = turned_counts c.args.self.now c.self.inside.kfs c.self.inside.files.opens c.lseek.new.files.opens c.self.inside.down c.self.view_is (none_of c.self.inside.down c.if-is_some.ensures) (calls.Lseek c.args.fd c.args.whence c.args.offset) c.lseek.result (lseek_in c.self.inside.files.opens c.args.fd c.args.whence c.args.offset) (lseek_turns c.self.inside.files.opens c.args.fd c.args.whence c.args.offset) (c.lseek.ensures ∙ ap (λ z. turned c.self.inside.files.opens (lseek_in c.self.inside.files.opens c.args.fd c.args.whence z)) (to_z-of_z w64 c.args.offset c.ranges.offset))
-
-pub returns-clause-down : goal.returns-clause-down
-returns-clause-down g c = turned_keeps c.args.self.now c.self.inside.kfs c.self.inside.files.opens c.lseek.new.files.opens c.self.inside.down c.self.view_is (none_of c.self.inside.down c.if-is_some.ensures) (calls.Lseek c.args.fd c.args.whence c.args.offset) c.lseek.result (lseek_in c.self.inside.files.opens c.args.fd c.args.whence c.args.offset) (lseek_turns c.self.inside.files.opens c.args.fd c.args.whence c.args.offset) (c.lseek.ensures ∙ ap (λ z. turned c.self.inside.files.opens (lseek_in c.self.inside.files.opens c.args.fd c.args.whence z)) (to_z-of_z w64 c.args.offset c.ranges.offset))
+pub returns : goal.returns
+returns g c = turned_answers c.args.self.now c.self.inside.kfs c.self.inside.files.opens c.lseek.new.files.opens c.self.inside.down c.self.view_is (none_of c.self.inside.down c.if-is_some.ensures) (calls.Lseek c.args.fd c.args.whence c.args.offset) c.lseek.result (lseek_in c.self.inside.files.opens c.args.fd c.args.whence c.args.offset) (lseek_turns c.self.inside.files.opens c.args.fd c.args.whence c.args.offset) (c.lseek.ensures ∙ ap (λ z. turned c.self.inside.files.opens (lseek_in c.self.inside.files.opens c.args.fd c.args.whence z)) (to_z-of_z w64 c.args.offset c.ranges.offset))

@@ -1,21 +1,15 @@
 use Rattle.std.proofs.Common.{arith, refl}
 use Rattle.kfs_path.specs.declared.call.Call.TheVariants as calls
 use Rattle.kfs_posix.proofs.Calls.{none_of}
-use Rattle.kfs_posix.proofs.Answered.{off_goes, off_keeps, aged_none, aged_by, age_in}
+use Rattle.kfs_posix.proofs.Answered.{age_in, answers_of, off_answers}
 use Rattle.kfs_posix.proofs.ReadAnswers.{read_answered, read_failed}
 use Rattle.kfs_posix.proofs.session.Session.read.Goals as goal
 use Rattle.kfs_posix.proofs.Shown.{showing_after, showing_in, awake_in}
 use Rattle.kfs_posix.specs.Volume.{volume_of}
 use Rattle.kfs_posix.specs.Answering.{refusal, down_after}
 
-pub returns-then-is_some-clause-goes_on : goal.returns-then-is_some-clause-goes_on
-returns-then-is_some-clause-goes_on g c = off_goes c.args.self.now c.self.inside.kfs c.self.inside.files.opens c.self.inside.down (calls.Read c.args.fd c.args.count) c.self.view_is c.if-is_some.ensures
-
-pub returns-then-is_some-clause-down : goal.returns-then-is_some-clause-down
-returns-then-is_some-clause-down g c = off_keeps c.args.self.now c.self.inside.kfs c.self.inside.files.opens c.self.inside.down c.self.view_is c.if-is_some.ensures
-
-pub returns-then-is_some-clause-age : goal.returns-then-is_some-clause-age
-returns-then-is_some-clause-age g c = aged_none _
+pub returns-then-is_some : goal.returns-then-is_some
+returns-then-is_some g c = off_answers c.args.self.now c.self.inside.kfs c.self.inside.files.opens c.self.inside.down (calls.Read c.args.fd c.args.count) c.self.view_is c.if-is_some.ensures
 
 pub read-requires : goal.read-requires
 read-requires g c = age_in c.args.self.now c.self.inside.kfs c.self.inside.files.opens c.self.inside.down c.self.view_is c.requires
@@ -26,29 +20,11 @@ refuse-requires g c = (read_failed c.args.self.now c.self.inside.kfs c.read.new.
 pub invariant_of-self-in-Err : goal.invariant_of-self-in-Err
 invariant_of-self-in-Err g c = showing_after c.args.self.now c.self.inside.kfs c.self.inside.files.opens c.self.inside.down c.self.view_is (none_of c.self.inside.down c.if-is_some.ensures) c.self.invariant _ _ _ (read_failed c.args.self.now c.self.inside.kfs c.read.new.kfs c.self.inside.files.opens c.read.new.files.opens c.self.inside.down c.self.view_is (none_of c.self.inside.down c.if-is_some.ensures) (awake_in (volume_of c.self.inside.kfs c.self.inside.files.opens c.self.inside.down) c.self.invariant (none_of c.self.inside.down c.if-is_some.ensures)) c.in-Err.ensures.rest c.args.fd c.args.count c.in-Err.fault c.refuse.result c.refuse.new.down c.in-Err.ensures.does c.in-Err.ensures.leaves c.refuse.ensures.reply c.refuse.ensures.down).happens.goes
 
-pub returns-in-Err-clause-goes_on : goal.returns-in-Err-clause-goes_on
-returns-in-Err-clause-goes_on g c = (read_failed c.args.self.now c.self.inside.kfs c.read.new.kfs c.self.inside.files.opens c.read.new.files.opens c.self.inside.down c.self.view_is (none_of c.self.inside.down c.if-is_some.ensures) (awake_in (volume_of c.self.inside.kfs c.self.inside.files.opens c.self.inside.down) c.self.invariant (none_of c.self.inside.down c.if-is_some.ensures)) c.in-Err.ensures.rest c.args.fd c.args.count c.in-Err.fault c.refuse.result c.refuse.new.down c.in-Err.ensures.does c.in-Err.ensures.leaves c.refuse.ensures.reply c.refuse.ensures.down).happens.goes
-
-pub returns-in-Err-clause-counts : goal.returns-in-Err-clause-counts
-returns-in-Err-clause-counts g c = (read_failed c.args.self.now c.self.inside.kfs c.read.new.kfs c.self.inside.files.opens c.read.new.files.opens c.self.inside.down c.self.view_is (none_of c.self.inside.down c.if-is_some.ensures) (awake_in (volume_of c.self.inside.kfs c.self.inside.files.opens c.self.inside.down) c.self.invariant (none_of c.self.inside.down c.if-is_some.ensures)) c.in-Err.ensures.rest c.args.fd c.args.count c.in-Err.fault c.refuse.result c.refuse.new.down c.in-Err.ensures.does c.in-Err.ensures.leaves c.refuse.ensures.reply c.refuse.ensures.down).happens.counts
-
-pub returns-in-Err-clause-down : goal.returns-in-Err-clause-down
-returns-in-Err-clause-down g c = (read_failed c.args.self.now c.self.inside.kfs c.read.new.kfs c.self.inside.files.opens c.read.new.files.opens c.self.inside.down c.self.view_is (none_of c.self.inside.down c.if-is_some.ensures) (awake_in (volume_of c.self.inside.kfs c.self.inside.files.opens c.self.inside.down) c.self.invariant (none_of c.self.inside.down c.if-is_some.ensures)) c.in-Err.ensures.rest c.args.fd c.args.count c.in-Err.fault c.refuse.result c.refuse.new.down c.in-Err.ensures.does c.in-Err.ensures.leaves c.refuse.ensures.reply c.refuse.ensures.down).happens.keeps
-
-pub returns-in-Err-clause-age : goal.returns-in-Err-clause-age
-returns-in-Err-clause-age g c = aged_by c.args.self.now c.self.inside.kfs c.read.new.kfs c.self.inside.files.opens c.self.inside.down (0) (omega arith) c.self.view_is c.in-Err.ensures.age
+pub returns-in-Err : goal.returns-in-Err
+returns-in-Err g c = answers_of c.args.self.now c.self.inside.kfs c.read.new.kfs c.self.inside.files.opens _ c.self.inside.down _ _ _ (0) (omega arith) c.self.view_is c.in-Err.ensures.age (read_failed c.args.self.now c.self.inside.kfs c.read.new.kfs c.self.inside.files.opens c.read.new.files.opens c.self.inside.down c.self.view_is (none_of c.self.inside.down c.if-is_some.ensures) (awake_in (volume_of c.self.inside.kfs c.self.inside.files.opens c.self.inside.down) c.self.invariant (none_of c.self.inside.down c.if-is_some.ensures)) c.in-Err.ensures.rest c.args.fd c.args.count c.in-Err.fault c.refuse.result c.refuse.new.down c.in-Err.ensures.does c.in-Err.ensures.leaves c.refuse.ensures.reply c.refuse.ensures.down).happens
 
 pub invariant_of-self : goal.invariant_of-self
 invariant_of-self g c = showing_after c.args.self.now c.self.inside.kfs c.self.inside.files.opens c.self.inside.down c.self.view_is (none_of c.self.inside.down c.if-is_some.ensures) c.self.invariant _ _ _ (read_answered c.args.self.now c.self.inside.kfs c.read.new.kfs c.self.inside.files.opens c.read.new.files.opens c.self.inside.down c.self.view_is (none_of c.self.inside.down c.if-is_some.ensures) (awake_in (volume_of c.self.inside.kfs c.self.inside.files.opens c.self.inside.down) c.self.invariant (none_of c.self.inside.down c.if-is_some.ensures)) c.in-Ok.ensures.rest c.args.fd c.args.count c.in-Ok.text c.in-Ok.ensures.does c.in-Ok.ensures.leaves).goes
 
-pub returns-in-Ok-clause-goes_on : goal.returns-in-Ok-clause-goes_on
-returns-in-Ok-clause-goes_on g c = (read_answered c.args.self.now c.self.inside.kfs c.read.new.kfs c.self.inside.files.opens c.read.new.files.opens c.self.inside.down c.self.view_is (none_of c.self.inside.down c.if-is_some.ensures) (awake_in (volume_of c.self.inside.kfs c.self.inside.files.opens c.self.inside.down) c.self.invariant (none_of c.self.inside.down c.if-is_some.ensures)) c.in-Ok.ensures.rest c.args.fd c.args.count c.in-Ok.text c.in-Ok.ensures.does c.in-Ok.ensures.leaves).goes
-
-pub returns-in-Ok-clause-counts : goal.returns-in-Ok-clause-counts
-returns-in-Ok-clause-counts g c = (read_answered c.args.self.now c.self.inside.kfs c.read.new.kfs c.self.inside.files.opens c.read.new.files.opens c.self.inside.down c.self.view_is (none_of c.self.inside.down c.if-is_some.ensures) (awake_in (volume_of c.self.inside.kfs c.self.inside.files.opens c.self.inside.down) c.self.invariant (none_of c.self.inside.down c.if-is_some.ensures)) c.in-Ok.ensures.rest c.args.fd c.args.count c.in-Ok.text c.in-Ok.ensures.does c.in-Ok.ensures.leaves).counts
-
-pub returns-in-Ok-clause-down : goal.returns-in-Ok-clause-down
-returns-in-Ok-clause-down g c = (read_answered c.args.self.now c.self.inside.kfs c.read.new.kfs c.self.inside.files.opens c.read.new.files.opens c.self.inside.down c.self.view_is (none_of c.self.inside.down c.if-is_some.ensures) (awake_in (volume_of c.self.inside.kfs c.self.inside.files.opens c.self.inside.down) c.self.invariant (none_of c.self.inside.down c.if-is_some.ensures)) c.in-Ok.ensures.rest c.args.fd c.args.count c.in-Ok.text c.in-Ok.ensures.does c.in-Ok.ensures.leaves).keeps
-
-pub returns-in-Ok-clause-age : goal.returns-in-Ok-clause-age
-returns-in-Ok-clause-age g c = aged_by c.args.self.now c.self.inside.kfs c.read.new.kfs c.self.inside.files.opens c.self.inside.down (0) (omega arith) c.self.view_is c.in-Ok.ensures.age
+pub returns-in-Ok : goal.returns-in-Ok
+returns-in-Ok g c = answers_of c.args.self.now c.self.inside.kfs c.read.new.kfs c.self.inside.files.opens _ c.self.inside.down _ _ _ (0) (omega arith) c.self.view_is c.in-Ok.ensures.age (read_answered c.args.self.now c.self.inside.kfs c.read.new.kfs c.self.inside.files.opens c.read.new.files.opens c.self.inside.down c.self.view_is (none_of c.self.inside.down c.if-is_some.ensures) (awake_in (volume_of c.self.inside.kfs c.self.inside.files.opens c.self.inside.down) c.self.invariant (none_of c.self.inside.down c.if-is_some.ensures)) c.in-Ok.ensures.rest c.args.fd c.args.count c.in-Ok.text c.in-Ok.ensures.does c.in-Ok.ensures.leaves)

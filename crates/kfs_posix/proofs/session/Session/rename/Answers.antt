@@ -2,20 +2,14 @@ use Rattle.std.proofs.Common.{◌^◌, arith, refl}
 use Rattle.kfs_path.specs.declared.call.Call.TheVariants as calls
 use Rattle.kfs_posix.proofs.RenameAnswers.{rename_answered, rename_failed}
 use Rattle.kfs_posix.proofs.Calls.{none_of}
-use Rattle.kfs_posix.proofs.Answered.{off_goes, off_keeps, aged_none, aged_by, age_in}
+use Rattle.kfs_posix.proofs.Answered.{age_in, answers_of, off_answers}
 use Rattle.kfs_posix.proofs.session.Session.rename.Goals as goal
 use Rattle.kfs_posix.proofs.Shown.{showing_after, showing_in, awake_in}
 use Rattle.kfs_posix.specs.Volume.{volume_of}
 use Rattle.kfs_posix.specs.Answering.{refusal, down_after}
 
-pub returns-then-is_some-clause-goes_on : goal.returns-then-is_some-clause-goes_on
-returns-then-is_some-clause-goes_on g c = off_goes c.args.self.now c.self.inside.kfs c.self.inside.files.opens c.self.inside.down (calls.Rename c.args.old.now c.args.new.now) c.self.view_is c.if-is_some.ensures
-
-pub returns-then-is_some-clause-down : goal.returns-then-is_some-clause-down
-returns-then-is_some-clause-down g c = off_keeps c.args.self.now c.self.inside.kfs c.self.inside.files.opens c.self.inside.down c.self.view_is c.if-is_some.ensures
-
-pub returns-then-is_some-clause-age : goal.returns-then-is_some-clause-age
-returns-then-is_some-clause-age g c = aged_none _
+pub returns-then-is_some : goal.returns-then-is_some
+returns-then-is_some g c = off_answers c.args.self.now c.self.inside.kfs c.self.inside.files.opens c.self.inside.down (calls.Rename c.args.old.now c.args.new.now) c.self.view_is c.if-is_some.ensures
 
 pub rename-requires : goal.rename-requires
 rename-requires g c = age_in c.args.self.now c.self.inside.kfs c.self.inside.files.opens c.self.inside.down c.self.view_is c.requires
@@ -26,29 +20,11 @@ refuse-requires g c = (rename_failed c.args.self.now c.self.inside.kfs c.rename.
 pub invariant_of-self-in-Err : goal.invariant_of-self-in-Err
 invariant_of-self-in-Err g c = showing_after c.args.self.now c.self.inside.kfs c.self.inside.files.opens c.self.inside.down c.self.view_is (none_of c.self.inside.down c.if-is_some.ensures) c.self.invariant _ _ _ (rename_failed c.args.self.now c.self.inside.kfs c.rename.new.kfs c.self.inside.files.opens c.rename.new.files.opens c.self.inside.down c.self.view_is (none_of c.self.inside.down c.if-is_some.ensures) (awake_in (volume_of c.self.inside.kfs c.self.inside.files.opens c.self.inside.down) c.self.invariant (none_of c.self.inside.down c.if-is_some.ensures)) c.requires c.args.old.now c.args.new.now c.in-Err.fault c.refuse.result c.refuse.new.down c.in-Err.ensures.does c.refuse.ensures.reply c.refuse.ensures.down).happens.goes
 
-pub returns-in-Err-clause-goes_on : goal.returns-in-Err-clause-goes_on
-returns-in-Err-clause-goes_on g c = (rename_failed c.args.self.now c.self.inside.kfs c.rename.new.kfs c.self.inside.files.opens c.rename.new.files.opens c.self.inside.down c.self.view_is (none_of c.self.inside.down c.if-is_some.ensures) (awake_in (volume_of c.self.inside.kfs c.self.inside.files.opens c.self.inside.down) c.self.invariant (none_of c.self.inside.down c.if-is_some.ensures)) c.requires c.args.old.now c.args.new.now c.in-Err.fault c.refuse.result c.refuse.new.down c.in-Err.ensures.does c.refuse.ensures.reply c.refuse.ensures.down).happens.goes
-
-pub returns-in-Err-clause-counts : goal.returns-in-Err-clause-counts
-returns-in-Err-clause-counts g c = (rename_failed c.args.self.now c.self.inside.kfs c.rename.new.kfs c.self.inside.files.opens c.rename.new.files.opens c.self.inside.down c.self.view_is (none_of c.self.inside.down c.if-is_some.ensures) (awake_in (volume_of c.self.inside.kfs c.self.inside.files.opens c.self.inside.down) c.self.invariant (none_of c.self.inside.down c.if-is_some.ensures)) c.requires c.args.old.now c.args.new.now c.in-Err.fault c.refuse.result c.refuse.new.down c.in-Err.ensures.does c.refuse.ensures.reply c.refuse.ensures.down).happens.counts
-
-pub returns-in-Err-clause-down : goal.returns-in-Err-clause-down
-returns-in-Err-clause-down g c = (rename_failed c.args.self.now c.self.inside.kfs c.rename.new.kfs c.self.inside.files.opens c.rename.new.files.opens c.self.inside.down c.self.view_is (none_of c.self.inside.down c.if-is_some.ensures) (awake_in (volume_of c.self.inside.kfs c.self.inside.files.opens c.self.inside.down) c.self.invariant (none_of c.self.inside.down c.if-is_some.ensures)) c.requires c.args.old.now c.args.new.now c.in-Err.fault c.refuse.result c.refuse.new.down c.in-Err.ensures.does c.refuse.ensures.reply c.refuse.ensures.down).happens.keeps
-
-pub returns-in-Err-clause-age : goal.returns-in-Err-clause-age
-returns-in-Err-clause-age g c = aged_by c.args.self.now c.self.inside.kfs c.rename.new.kfs c.self.inside.files.opens c.self.inside.down (2 ^ 16) (omega arith) c.self.view_is c.in-Err.ensures.age
+pub returns-in-Err : goal.returns-in-Err
+returns-in-Err g c = answers_of c.args.self.now c.self.inside.kfs c.rename.new.kfs c.self.inside.files.opens _ c.self.inside.down _ _ _ (2 ^ 16) (omega arith) c.self.view_is c.in-Err.ensures.age (rename_failed c.args.self.now c.self.inside.kfs c.rename.new.kfs c.self.inside.files.opens c.rename.new.files.opens c.self.inside.down c.self.view_is (none_of c.self.inside.down c.if-is_some.ensures) (awake_in (volume_of c.self.inside.kfs c.self.inside.files.opens c.self.inside.down) c.self.invariant (none_of c.self.inside.down c.if-is_some.ensures)) c.requires c.args.old.now c.args.new.now c.in-Err.fault c.refuse.result c.refuse.new.down c.in-Err.ensures.does c.refuse.ensures.reply c.refuse.ensures.down).happens
 
 pub invariant_of-self : goal.invariant_of-self
 invariant_of-self g c = showing_after c.args.self.now c.self.inside.kfs c.self.inside.files.opens c.self.inside.down c.self.view_is (none_of c.self.inside.down c.if-is_some.ensures) c.self.invariant _ _ _ (rename_answered c.args.self.now c.self.inside.kfs c.rename.new.kfs c.self.inside.files.opens c.rename.new.files.opens c.self.inside.down c.self.view_is (none_of c.self.inside.down c.if-is_some.ensures) (awake_in (volume_of c.self.inside.kfs c.self.inside.files.opens c.self.inside.down) c.self.invariant (none_of c.self.inside.down c.if-is_some.ensures)) c.requires c.args.old.now c.args.new.now c.in-Ok.ensures.does).goes
 
-pub returns-in-Ok-clause-goes_on : goal.returns-in-Ok-clause-goes_on
-returns-in-Ok-clause-goes_on g c = (rename_answered c.args.self.now c.self.inside.kfs c.rename.new.kfs c.self.inside.files.opens c.rename.new.files.opens c.self.inside.down c.self.view_is (none_of c.self.inside.down c.if-is_some.ensures) (awake_in (volume_of c.self.inside.kfs c.self.inside.files.opens c.self.inside.down) c.self.invariant (none_of c.self.inside.down c.if-is_some.ensures)) c.requires c.args.old.now c.args.new.now c.in-Ok.ensures.does).goes
-
-pub returns-in-Ok-clause-counts : goal.returns-in-Ok-clause-counts
-returns-in-Ok-clause-counts g c = (rename_answered c.args.self.now c.self.inside.kfs c.rename.new.kfs c.self.inside.files.opens c.rename.new.files.opens c.self.inside.down c.self.view_is (none_of c.self.inside.down c.if-is_some.ensures) (awake_in (volume_of c.self.inside.kfs c.self.inside.files.opens c.self.inside.down) c.self.invariant (none_of c.self.inside.down c.if-is_some.ensures)) c.requires c.args.old.now c.args.new.now c.in-Ok.ensures.does).counts
-
-pub returns-in-Ok-clause-down : goal.returns-in-Ok-clause-down
-returns-in-Ok-clause-down g c = (rename_answered c.args.self.now c.self.inside.kfs c.rename.new.kfs c.self.inside.files.opens c.rename.new.files.opens c.self.inside.down c.self.view_is (none_of c.self.inside.down c.if-is_some.ensures) (awake_in (volume_of c.self.inside.kfs c.self.inside.files.opens c.self.inside.down) c.self.invariant (none_of c.self.inside.down c.if-is_some.ensures)) c.requires c.args.old.now c.args.new.now c.in-Ok.ensures.does).keeps
-
-pub returns-in-Ok-clause-age : goal.returns-in-Ok-clause-age
-returns-in-Ok-clause-age g c = aged_by c.args.self.now c.self.inside.kfs c.rename.new.kfs c.self.inside.files.opens c.self.inside.down (2 ^ 16) (omega arith) c.self.view_is c.in-Ok.ensures.age
+pub returns-in-Ok : goal.returns-in-Ok
+returns-in-Ok g c = answers_of c.args.self.now c.self.inside.kfs c.rename.new.kfs c.self.inside.files.opens _ c.self.inside.down _ _ _ (2 ^ 16) (omega arith) c.self.view_is c.in-Ok.ensures.age (rename_answered c.args.self.now c.self.inside.kfs c.rename.new.kfs c.self.inside.files.opens c.rename.new.files.opens c.self.inside.down c.self.view_is (none_of c.self.inside.down c.if-is_some.ensures) (awake_in (volume_of c.self.inside.kfs c.self.inside.files.opens c.self.inside.down) c.self.invariant (none_of c.self.inside.down c.if-is_some.ensures)) c.requires c.args.old.now c.args.new.now c.in-Ok.ensures.does)

@@ -1,56 +1,29 @@
 use Rattle.std.proofs.Common.{◌^◌, ap, arith, refl}
 use Rattle.kfs_path.specs.declared.call.Call.TheVariants as calls
-use Rattle.kfs_tx.specs.Tx.{Tx}
-use Rattle.kfs_core.specs.Core.{tx_in}
 use Rattle.kfs_posix.proofs.Calls.{none_of}
-use Rattle.kfs_posix.proofs.Fault.{counts_by, keeps_by, none_kept, counts_same, commit_counts}
-use Rattle.kfs_posix.proofs.Answered.{off_goes, off_keeps, aged_none, aged_by, age_in, sync_answered, sync_refused}
+use Rattle.kfs_posix.proofs.Answered.{age_in, sync_answered, sync_refused, off_answers, answers_of}
 use Rattle.kfs_posix.proofs.session.Session.sync.Goals as goal
 use Rattle.kfs_posix.proofs.Shown.{showing_after, showing_in, awake_in}
 use Rattle.kfs_posix.specs.Volume.{volume_of}
 use Rattle.kfs_posix.specs.Answering.{refusal, down_after}
 
-pub returns-then-is_some-clause-goes_on : goal.returns-then-is_some-clause-goes_on
-returns-then-is_some-clause-goes_on g c = off_goes c.args.self.now c.self.inside.kfs c.self.inside.files.opens c.self.inside.down calls.Sync c.self.view_is c.if-is_some.ensures
-
-pub returns-then-is_some-clause-down : goal.returns-then-is_some-clause-down
-returns-then-is_some-clause-down g c = off_keeps c.args.self.now c.self.inside.kfs c.self.inside.files.opens c.self.inside.down c.self.view_is c.if-is_some.ensures
-
-pub returns-then-is_some-clause-age : goal.returns-then-is_some-clause-age
-returns-then-is_some-clause-age g c = aged_none _
+pub returns-then-is_some : goal.returns-then-is_some
+returns-then-is_some g c = off_answers c.args.self.now c.self.inside.kfs c.self.inside.files.opens c.self.inside.down calls.Sync c.self.view_is c.if-is_some.ensures
 
 pub commit-requires : goal.commit-requires
 commit-requires g c = age_in c.args.self.now c.self.inside.kfs c.self.inside.files.opens c.self.inside.down c.self.view_is c.requires
 
 pub refuse-requires : goal.refuse-requires
-refuse-requires g c = (sync_refused c.args.self.now c.self.inside.kfs c.commit.new.self c.self.inside.files.opens c.self.inside.down c.self.view_is (none_of c.self.inside.down c.if-is_some.ensures) c.in-Err.ensures.rest (refusal c.in-Err.fault) c.in-Err.fault (down_after c.self.inside.down c.in-Err.fault) c.in-Err.ensures.err refl refl).answerable (showing_in c.args.self.now c.self.inside.kfs c.self.inside.files.opens c.self.inside.down c.self.view_is c.self.invariant)
+refuse-requires g c = (sync_refused c.args.self.now c.self.inside.kfs c.commit.new.self c.self.inside.files.opens c.self.inside.down c.self.view_is (none_of c.self.inside.down c.if-is_some.ensures) (awake_in (volume_of c.self.inside.kfs c.self.inside.files.opens c.self.inside.down) c.self.invariant (none_of c.self.inside.down c.if-is_some.ensures)) c.in-Err.ensures.rest (refusal c.in-Err.fault) c.in-Err.fault (down_after c.self.inside.down c.in-Err.fault) c.in-Err.ensures.err refl refl).answerable (showing_in c.args.self.now c.self.inside.kfs c.self.inside.files.opens c.self.inside.down c.self.view_is c.self.invariant)
 
 pub invariant_of-self-in-Err : goal.invariant_of-self-in-Err
-invariant_of-self-in-Err g c = showing_after c.args.self.now c.self.inside.kfs c.self.inside.files.opens c.self.inside.down c.self.view_is (none_of c.self.inside.down c.if-is_some.ensures) c.self.invariant _ _ _ (sync_refused c.args.self.now c.self.inside.kfs c.commit.new.self c.self.inside.files.opens c.self.inside.down c.self.view_is (none_of c.self.inside.down c.if-is_some.ensures) c.in-Err.ensures.rest c.refuse.result c.in-Err.fault c.refuse.new.down c.in-Err.ensures.err c.refuse.ensures.reply c.refuse.ensures.down).goes
+invariant_of-self-in-Err g c = showing_after c.args.self.now c.self.inside.kfs c.self.inside.files.opens c.self.inside.down c.self.view_is (none_of c.self.inside.down c.if-is_some.ensures) c.self.invariant _ _ _ (sync_refused c.args.self.now c.self.inside.kfs c.commit.new.self c.self.inside.files.opens c.self.inside.down c.self.view_is (none_of c.self.inside.down c.if-is_some.ensures) (awake_in (volume_of c.self.inside.kfs c.self.inside.files.opens c.self.inside.down) c.self.invariant (none_of c.self.inside.down c.if-is_some.ensures)) c.in-Err.ensures.rest c.refuse.result c.in-Err.fault c.refuse.new.down c.in-Err.ensures.err c.refuse.ensures.reply c.refuse.ensures.down).happens.goes
 
-pub returns-in-Err-clause-goes_on : goal.returns-in-Err-clause-goes_on
-returns-in-Err-clause-goes_on g c = (sync_refused c.args.self.now c.self.inside.kfs c.commit.new.self c.self.inside.files.opens c.self.inside.down c.self.view_is (none_of c.self.inside.down c.if-is_some.ensures) c.in-Err.ensures.rest c.refuse.result c.in-Err.fault c.refuse.new.down c.in-Err.ensures.err c.refuse.ensures.reply c.refuse.ensures.down).goes
-
-pub returns-in-Err-clause-counts : goal.returns-in-Err-clause-counts
-returns-in-Err-clause-counts g c = counts_by c.args.self.now c.self.inside.kfs c.self.inside.files.opens c.self.inside.down c.refuse.result c.in-Err.fault c.commit.new.self.running.tx.machine c.self.view_is c.refuse.ensures.reply (commit_counts (tx_in c.self.inside.kfs) (tx_in c.commit.new.self) c.in-Err.fault (awake_in (volume_of c.self.inside.kfs c.self.inside.files.opens c.self.inside.down) c.self.invariant (none_of c.self.inside.down c.if-is_some.ensures)) c.in-Err.ensures.err)
-
-pub returns-in-Err-clause-down : goal.returns-in-Err-clause-down
-returns-in-Err-clause-down g c = keeps_by c.args.self.now c.self.inside.kfs c.commit.new.self c.self.inside.files.opens c.self.inside.down c.refuse.new.down c.refuse.result c.in-Err.fault c.self.view_is (none_of c.self.inside.down c.if-is_some.ensures) c.refuse.ensures.reply c.refuse.ensures.down
-
-pub returns-in-Err-clause-age : goal.returns-in-Err-clause-age
-returns-in-Err-clause-age g c = aged_by c.args.self.now c.self.inside.kfs c.commit.new.self c.self.inside.files.opens c.self.inside.down (2 ^ 16) (omega arith) c.self.view_is c.in-Err.ensures.age
+pub returns-in-Err : goal.returns-in-Err
+returns-in-Err g c = answers_of c.args.self.now c.self.inside.kfs c.commit.new.self c.self.inside.files.opens _ c.self.inside.down _ _ _ (2 ^ 16) (omega arith) c.self.view_is c.in-Err.ensures.age (sync_refused c.args.self.now c.self.inside.kfs c.commit.new.self c.self.inside.files.opens c.self.inside.down c.self.view_is (none_of c.self.inside.down c.if-is_some.ensures) (awake_in (volume_of c.self.inside.kfs c.self.inside.files.opens c.self.inside.down) c.self.invariant (none_of c.self.inside.down c.if-is_some.ensures)) c.in-Err.ensures.rest c.refuse.result c.in-Err.fault c.refuse.new.down c.in-Err.ensures.err c.refuse.ensures.reply c.refuse.ensures.down).happens
 
 pub invariant_of-self : goal.invariant_of-self
-invariant_of-self g c = showing_after c.args.self.now c.self.inside.kfs c.self.inside.files.opens c.self.inside.down c.self.view_is (none_of c.self.inside.down c.if-is_some.ensures) c.self.invariant _ _ _ (sync_answered c.args.self.now c.self.inside.kfs c.commit.new.self c.self.inside.files.opens c.self.inside.down c.self.view_is (none_of c.self.inside.down c.if-is_some.ensures) c.in-Ok.ensures.rest c.in-Ok.ensures.ok)
+invariant_of-self g c = showing_after c.args.self.now c.self.inside.kfs c.self.inside.files.opens c.self.inside.down c.self.view_is (none_of c.self.inside.down c.if-is_some.ensures) c.self.invariant _ _ _ (sync_answered c.args.self.now c.self.inside.kfs c.commit.new.self c.self.inside.files.opens c.self.inside.down c.self.view_is (none_of c.self.inside.down c.if-is_some.ensures) (awake_in (volume_of c.self.inside.kfs c.self.inside.files.opens c.self.inside.down) c.self.invariant (none_of c.self.inside.down c.if-is_some.ensures)) c.in-Ok.ensures.rest c.in-Ok.ensures.ok).goes
 
-pub returns-in-Ok-clause-goes_on : goal.returns-in-Ok-clause-goes_on
-returns-in-Ok-clause-goes_on g c = sync_answered c.args.self.now c.self.inside.kfs c.commit.new.self c.self.inside.files.opens c.self.inside.down c.self.view_is (none_of c.self.inside.down c.if-is_some.ensures) c.in-Ok.ensures.rest c.in-Ok.ensures.ok
-
-pub returns-in-Ok-clause-counts : goal.returns-in-Ok-clause-counts
-returns-in-Ok-clause-counts g c = counts_same c.args.self.now c.self.inside.kfs c.self.inside.files.opens c.self.inside.down c.commit.new.self.running.tx.machine c.self.view_is (ap (λ (r : Tx). r.machine.cuts) c.in-Ok.ensures.ok) (ap (λ (r : Tx). r.machine.faults) c.in-Ok.ensures.ok)
-
-pub returns-in-Ok-clause-down : goal.returns-in-Ok-clause-down
-returns-in-Ok-clause-down g c = none_kept c.args.self.now c.self.inside.kfs c.self.inside.files.opens c.self.inside.down c.self.view_is (none_of c.self.inside.down c.if-is_some.ensures)
-
-pub returns-in-Ok-clause-age : goal.returns-in-Ok-clause-age
-returns-in-Ok-clause-age g c = aged_by c.args.self.now c.self.inside.kfs c.commit.new.self c.self.inside.files.opens c.self.inside.down (2 ^ 16) (omega arith) c.self.view_is c.in-Ok.ensures.age
+pub returns-in-Ok : goal.returns-in-Ok
+returns-in-Ok g c = answers_of c.args.self.now c.self.inside.kfs c.commit.new.self c.self.inside.files.opens _ c.self.inside.down _ _ _ (2 ^ 16) (omega arith) c.self.view_is c.in-Ok.ensures.age (sync_answered c.args.self.now c.self.inside.kfs c.commit.new.self c.self.inside.files.opens c.self.inside.down c.self.view_is (none_of c.self.inside.down c.if-is_some.ensures) (awake_in (volume_of c.self.inside.kfs c.self.inside.files.opens c.self.inside.down) c.self.invariant (none_of c.self.inside.down c.if-is_some.ensures)) c.in-Ok.ensures.rest c.in-Ok.ensures.ok)

@@ -1,21 +1,15 @@
 use Rattle.std.proofs.Common.{arith, refl}
 use Rattle.kfs_path.specs.declared.call.Call.TheVariants as calls
 use Rattle.kfs_posix.proofs.Calls.{none_of}
-use Rattle.kfs_posix.proofs.Answered.{off_goes, off_keeps, aged_none, aged_by, age_in, keys_in}
+use Rattle.kfs_posix.proofs.Answered.{age_in, keys_in, answers_of, off_answers}
 use Rattle.kfs_posix.proofs.WholeAnswers.{tree_answered, tree_failed}
 use Rattle.kfs_posix.proofs.session.Session.tree.Goals as goal
 use Rattle.kfs_posix.proofs.Shown.{showing_after, showing_in, awake_in}
 use Rattle.kfs_posix.specs.Volume.{volume_of}
 use Rattle.kfs_posix.specs.Answering.{refusal, down_after}
 
-pub returns-then-is_some-clause-goes_on : goal.returns-then-is_some-clause-goes_on
-returns-then-is_some-clause-goes_on g c = off_goes c.args.self.now c.self.inside.kfs c.self.inside.files.opens c.self.inside.down calls.Tree c.self.view_is c.if-is_some.ensures
-
-pub returns-then-is_some-clause-down : goal.returns-then-is_some-clause-down
-returns-then-is_some-clause-down g c = off_keeps c.args.self.now c.self.inside.kfs c.self.inside.files.opens c.self.inside.down c.self.view_is c.if-is_some.ensures
-
-pub returns-then-is_some-clause-age : goal.returns-then-is_some-clause-age
-returns-then-is_some-clause-age g c = aged_none _
+pub returns-then-is_some : goal.returns-then-is_some
+returns-then-is_some g c = off_answers c.args.self.now c.self.inside.kfs c.self.inside.files.opens c.self.inside.down calls.Tree c.self.view_is c.if-is_some.ensures
 
 pub tree-requires : goal.tree-requires
 tree-requires g c = age_in c.args.self.now c.self.inside.kfs c.self.inside.files.opens c.self.inside.down c.self.view_is c.requires.age
@@ -26,29 +20,11 @@ refuse-requires g c = (tree_failed c.args.self.now c.self.inside.kfs c.tree.new.
 pub invariant_of-self-in-Err : goal.invariant_of-self-in-Err
 invariant_of-self-in-Err g c = showing_after c.args.self.now c.self.inside.kfs c.self.inside.files.opens c.self.inside.down c.self.view_is (none_of c.self.inside.down c.if-is_some.ensures) c.self.invariant _ _ _ (tree_failed c.args.self.now c.self.inside.kfs c.tree.new.self c.self.inside.files.opens c.self.inside.down c.self.view_is (none_of c.self.inside.down c.if-is_some.ensures) (awake_in (volume_of c.self.inside.kfs c.self.inside.files.opens c.self.inside.down) c.self.invariant (none_of c.self.inside.down c.if-is_some.ensures)) c.in-Err.ensures.rest c.in-Err.fault c.refuse.result c.refuse.new.down c.in-Err.ensures.err c.in-Err.ensures.leaves c.refuse.ensures.reply c.refuse.ensures.down).happens.goes
 
-pub returns-in-Err-clause-goes_on : goal.returns-in-Err-clause-goes_on
-returns-in-Err-clause-goes_on g c = (tree_failed c.args.self.now c.self.inside.kfs c.tree.new.self c.self.inside.files.opens c.self.inside.down c.self.view_is (none_of c.self.inside.down c.if-is_some.ensures) (awake_in (volume_of c.self.inside.kfs c.self.inside.files.opens c.self.inside.down) c.self.invariant (none_of c.self.inside.down c.if-is_some.ensures)) c.in-Err.ensures.rest c.in-Err.fault c.refuse.result c.refuse.new.down c.in-Err.ensures.err c.in-Err.ensures.leaves c.refuse.ensures.reply c.refuse.ensures.down).happens.goes
-
-pub returns-in-Err-clause-counts : goal.returns-in-Err-clause-counts
-returns-in-Err-clause-counts g c = (tree_failed c.args.self.now c.self.inside.kfs c.tree.new.self c.self.inside.files.opens c.self.inside.down c.self.view_is (none_of c.self.inside.down c.if-is_some.ensures) (awake_in (volume_of c.self.inside.kfs c.self.inside.files.opens c.self.inside.down) c.self.invariant (none_of c.self.inside.down c.if-is_some.ensures)) c.in-Err.ensures.rest c.in-Err.fault c.refuse.result c.refuse.new.down c.in-Err.ensures.err c.in-Err.ensures.leaves c.refuse.ensures.reply c.refuse.ensures.down).happens.counts
-
-pub returns-in-Err-clause-down : goal.returns-in-Err-clause-down
-returns-in-Err-clause-down g c = (tree_failed c.args.self.now c.self.inside.kfs c.tree.new.self c.self.inside.files.opens c.self.inside.down c.self.view_is (none_of c.self.inside.down c.if-is_some.ensures) (awake_in (volume_of c.self.inside.kfs c.self.inside.files.opens c.self.inside.down) c.self.invariant (none_of c.self.inside.down c.if-is_some.ensures)) c.in-Err.ensures.rest c.in-Err.fault c.refuse.result c.refuse.new.down c.in-Err.ensures.err c.in-Err.ensures.leaves c.refuse.ensures.reply c.refuse.ensures.down).happens.keeps
-
-pub returns-in-Err-clause-age : goal.returns-in-Err-clause-age
-returns-in-Err-clause-age g c = aged_by c.args.self.now c.self.inside.kfs c.tree.new.self c.self.inside.files.opens c.self.inside.down (0) (omega arith) c.self.view_is c.in-Err.ensures.age
+pub returns-in-Err : goal.returns-in-Err
+returns-in-Err g c = answers_of c.args.self.now c.self.inside.kfs c.tree.new.self c.self.inside.files.opens _ c.self.inside.down _ _ _ (0) (omega arith) c.self.view_is c.in-Err.ensures.age (tree_failed c.args.self.now c.self.inside.kfs c.tree.new.self c.self.inside.files.opens c.self.inside.down c.self.view_is (none_of c.self.inside.down c.if-is_some.ensures) (awake_in (volume_of c.self.inside.kfs c.self.inside.files.opens c.self.inside.down) c.self.invariant (none_of c.self.inside.down c.if-is_some.ensures)) c.in-Err.ensures.rest c.in-Err.fault c.refuse.result c.refuse.new.down c.in-Err.ensures.err c.in-Err.ensures.leaves c.refuse.ensures.reply c.refuse.ensures.down).happens
 
 pub invariant_of-self : goal.invariant_of-self
 invariant_of-self g c = showing_after c.args.self.now c.self.inside.kfs c.self.inside.files.opens c.self.inside.down c.self.view_is (none_of c.self.inside.down c.if-is_some.ensures) c.self.invariant _ _ _ (tree_answered c.args.self.now c.self.inside.kfs c.tree.new.self c.self.inside.files.opens c.self.inside.down c.self.view_is (none_of c.self.inside.down c.if-is_some.ensures) (awake_in (volume_of c.self.inside.kfs c.self.inside.files.opens c.self.inside.down) c.self.invariant (none_of c.self.inside.down c.if-is_some.ensures)) c.in-Ok.ensures.rest c.in-Ok.items (keys_in c.args.self.now c.self.inside.kfs c.self.inside.files.opens c.self.inside.down c.self.view_is c.requires.room) c.in-Ok.ensures.lists c.in-Ok.ensures.leaves).goes
 
-pub returns-in-Ok-clause-goes_on : goal.returns-in-Ok-clause-goes_on
-returns-in-Ok-clause-goes_on g c = (tree_answered c.args.self.now c.self.inside.kfs c.tree.new.self c.self.inside.files.opens c.self.inside.down c.self.view_is (none_of c.self.inside.down c.if-is_some.ensures) (awake_in (volume_of c.self.inside.kfs c.self.inside.files.opens c.self.inside.down) c.self.invariant (none_of c.self.inside.down c.if-is_some.ensures)) c.in-Ok.ensures.rest c.in-Ok.items (keys_in c.args.self.now c.self.inside.kfs c.self.inside.files.opens c.self.inside.down c.self.view_is c.requires.room) c.in-Ok.ensures.lists c.in-Ok.ensures.leaves).goes
-
-pub returns-in-Ok-clause-counts : goal.returns-in-Ok-clause-counts
-returns-in-Ok-clause-counts g c = (tree_answered c.args.self.now c.self.inside.kfs c.tree.new.self c.self.inside.files.opens c.self.inside.down c.self.view_is (none_of c.self.inside.down c.if-is_some.ensures) (awake_in (volume_of c.self.inside.kfs c.self.inside.files.opens c.self.inside.down) c.self.invariant (none_of c.self.inside.down c.if-is_some.ensures)) c.in-Ok.ensures.rest c.in-Ok.items (keys_in c.args.self.now c.self.inside.kfs c.self.inside.files.opens c.self.inside.down c.self.view_is c.requires.room) c.in-Ok.ensures.lists c.in-Ok.ensures.leaves).counts
-
-pub returns-in-Ok-clause-down : goal.returns-in-Ok-clause-down
-returns-in-Ok-clause-down g c = (tree_answered c.args.self.now c.self.inside.kfs c.tree.new.self c.self.inside.files.opens c.self.inside.down c.self.view_is (none_of c.self.inside.down c.if-is_some.ensures) (awake_in (volume_of c.self.inside.kfs c.self.inside.files.opens c.self.inside.down) c.self.invariant (none_of c.self.inside.down c.if-is_some.ensures)) c.in-Ok.ensures.rest c.in-Ok.items (keys_in c.args.self.now c.self.inside.kfs c.self.inside.files.opens c.self.inside.down c.self.view_is c.requires.room) c.in-Ok.ensures.lists c.in-Ok.ensures.leaves).keeps
-
-pub returns-in-Ok-clause-age : goal.returns-in-Ok-clause-age
-returns-in-Ok-clause-age g c = aged_by c.args.self.now c.self.inside.kfs c.tree.new.self c.self.inside.files.opens c.self.inside.down (0) (omega arith) c.self.view_is c.in-Ok.ensures.age
+pub returns-in-Ok : goal.returns-in-Ok
+returns-in-Ok g c = answers_of c.args.self.now c.self.inside.kfs c.tree.new.self c.self.inside.files.opens _ c.self.inside.down _ _ _ (0) (omega arith) c.self.view_is c.in-Ok.ensures.age (tree_answered c.args.self.now c.self.inside.kfs c.tree.new.self c.self.inside.files.opens c.self.inside.down c.self.view_is (none_of c.self.inside.down c.if-is_some.ensures) (awake_in (volume_of c.self.inside.kfs c.self.inside.files.opens c.self.inside.down) c.self.invariant (none_of c.self.inside.down c.if-is_some.ensures)) c.in-Ok.ensures.rest c.in-Ok.items (keys_in c.args.self.now c.self.inside.kfs c.self.inside.files.opens c.self.inside.down c.self.view_is c.requires.room) c.in-Ok.ensures.lists c.in-Ok.ensures.leaves)

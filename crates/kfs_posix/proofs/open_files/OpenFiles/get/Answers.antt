@@ -5,7 +5,7 @@ use Rattle.std.specs.FinMap.{find}
 use Rattle.kfs_posix.specs.Opens.{FilesState, Opens, open_at}
 use Rattle.kfs_posix.specs.declared.open_files.OpenFile.{OpenFile}
 use Rattle.kfs_posix.proofs.Slots.{found}
-use Rattle.kfs_posix.proofs.open_files.OpenFiles.opened.Goals as goal
+use Rattle.kfs_posix.proofs.open_files.OpenFiles.get.Goals as goal
 
 -- what is at a descriptor, by its description
 at_number : (o : Opens) (fd d : ℕ) (file : Option OpenFile) → find nat_cmp fd o.descriptors ≡ Some d → find nat_cmp d o.files ≡ file → open_at o fd ≡ option_map {U = ℕ × OpenFile} (λ f. (d, f)) file
