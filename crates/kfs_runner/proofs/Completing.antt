@@ -8,8 +8,8 @@ use Rattle.kfs_model.specs.declared.Answer.{Answer}
 use Rattle.kfs_model.specs.declared.Answer.TheVariants as answers
 use Rattle.kfs_model.specs.Tree.{Tree, Limits}
 use Rattle.kfs_model.specs.Life.{State, Down, Past, tree_at, newborn}
-use Rattle.kfs_step_laws.specs.Plain.{ArePlain, PlainAnswer, no_memory}
-use Rattle.kfs_step_laws.proofs.Plans.{goes, plainly}
+use Rattle.kfs_laws.specs.Plain.{ArePlain, PlainAnswer, no_memory}
+use Rattle.kfs_laws.proofs.Plans.{goes, plainly}
 use Rattle.kfs_posix.specs.Volume.{Volume}
 use Rattle.kfs_posix.specs.Showing.{ShowsState, IsSaved}
 use Rattle.kfs_posix.specs.Mounting.{limits_in}

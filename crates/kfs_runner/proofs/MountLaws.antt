@@ -27,7 +27,7 @@ use Rattle.kfs_core.specs.Clearing.{Keeps}
 use Rattle.kfs_core.proofs.Cleared.{kept_all}
 use Rattle.kfs_posix.proofs.Mounting.{saved_still}
 use Rattle.kfs_core.specs.Starting.{NotMounted, HostCause, first_objects}
-use Rattle.kfs_posix.specs.Answering.{Counts}
+use Rattle.kfs_posix.specs.Answering.{CountsFaults}
 use Rattle.kfs_posix.specs.Volume.{Volume, SessionState, limits_of, running_in}
 use Rattle.kfs_posix.specs.Showing.{ShowsLive, ShowsNow, ShowsState, IsSaved, GoesOn, one_if}
 use Rattle.kfs_posix.specs.Mounting.{limits_in, Mounts}

@@ -29,7 +29,7 @@ use Rattle.kfs_core.proofs.Cleared.{kept_all}
 use Rattle.kfs_posix.proofs.Mounting.{saved_still, whole_saved}
 use Rattle.kfs_posix.proofs.Shown.{planned as planned_goes}
 use Rattle.kfs_core.specs.Starting.{NotMounted, HostCause, first_objects}
-use Rattle.kfs_posix.specs.Answering.{Counts}
+use Rattle.kfs_posix.specs.Answering.{CountsFaults}
 use Rattle.kfs_posix.specs.Volume.{Volume, SessionState, limits_of, running_in}
 use Rattle.kfs_posix.specs.Showing.{ShowsLive, ShowsNow, ShowsState, IsSaved, GoesOn, one_if}
 use Rattle.kfs_posix.specs.Mounting.{limits_in, Mounts}
@@ -110,7 +110,7 @@ low_counts point known =
 
 -- ---- a call
 
-counts_le : (old : Machine) (reply : Reply) (new : Machine) → Counts old reply new → old.cuts ≤ old.most_cuts → old.faults ≤ old.most_faults → (new.cuts ≤ old.most_cuts) × (new.faults ≤ old.most_faults)
+counts_le : (old : Machine) (reply : Reply) (new : Machine) → CountsFaults old reply new → old.cuts ≤ old.most_cuts → old.faults ≤ old.most_faults → (new.cuts ≤ old.most_cuts) × (new.faults ≤ old.most_faults)
 counts_le old (replies.Down causes.Cut) new c cuts faults = (c.0.0, omega (arith, c.1))
 counts_le old (replies.Down causes.Eio) new c cuts faults = (omega (arith, c.1), c.0.0)
 counts_le old reply new c cuts faults = (omega (arith, c.0), omega (arith, c.1))
@@ -118,7 +118,7 @@ counts_le old reply new c cuts faults = (omega (arith, c.0), omega (arith, c.1))
 call_age : (old_age new_age old_cuts old_faults cuts faults : ℕ) → new_age ≤ old_age + 2 ^ 38 → cuts ≤ old_cuts + 1 → faults ≤ old_faults + 1 → max new_age (max cuts faults) ≤ max (max old_age (max old_cuts old_faults)) (2 ^ 62) + line_age
 call_age old_age new_age old_cuts old_faults cuts faults a b c = omega arith
 
-struck_by_reply : (old new : Machine) (reply : Reply) → old.cuts < 2 ^ 63 → old.faults < 2 ^ 63 → Counts old reply new → strikes_of new ≡ struck (strikes_of old) (answers.Reply reply)
+struck_by_reply : (old new : Machine) (reply : Reply) → old.cuts < 2 ^ 63 → old.faults < 2 ^ 63 → CountsFaults old reply new → strikes_of new ≡ struck (strikes_of old) (answers.Reply reply)
 struck_by_reply old new (replies.Down causes.Cut) low_cuts low_faults c =
     let cuts : new.cuts ≡ old.cuts + 1 = omega (arith, c.0.1, low_cuts) in
     let faults : new.faults ≡ old.faults + 0 = omega (arith, c.1) in
@@ -133,7 +133,7 @@ struck_by_reply old new reply low_cuts low_faults c = unstruck old new (answers.
 event_of : (old new : Volume) (line : Line) (answer : Answer) → GoesOn old line answer new → (s : State) → ShowsState old s → (t : State) × Event (limits_of old) s line answer t × ShowsState new t
 event_of old new line answer goes s shows = planned_goes old line answer new goes s shows
 
-pub call_goes : (old new : SessionState) (call : Call) (reply : Reply) → Known (Mounted old) → GoesOn old.volume (lines.Call call) (answers.Reply reply) new.volume → Counts old.volume.tx.machine reply new.volume.tx.machine → limits_of new.volume ≡ limits_of old.volume → Aged (running_in old) (running_in new) (2 ^ 38) → PointGoes (Mounted old) (lines.Call call) (answers.Reply reply) (Mounted new)
+pub call_goes : (old new : SessionState) (call : Call) (reply : Reply) → Known (Mounted old) → GoesOn old.volume (lines.Call call) (answers.Reply reply) new.volume → CountsFaults old.volume.tx.machine reply new.volume.tx.machine → limits_of new.volume ≡ limits_of old.volume → Aged (running_in old) (running_in new) (2 ^ 38) → PointGoes (Mounted old) (lines.Call call) (answers.Reply reply) (Mounted new)
 call_goes old new call reply known goes counts room aged =
     let low = low_counts (Mounted old) known in
     let it = event_of old.volume new.volume (lines.Call call) (answers.Reply reply) goes known.0 known.1 in

@@ -8,7 +8,7 @@ use Rattle.kfs_model.specs.declared.Answer.{Answer}
 use Rattle.kfs_model.specs.declared.Answer.TheVariants as answers
 use Rattle.kfs_model.specs.Tree.{Tree, Limits}
 use Rattle.kfs_model.specs.Life.{State, Now, newborn}
-use Rattle.kfs_step_laws.specs.Plain.{is_plain, ArePlain, AnsweredPlainly, PlainAnswer, no_memory}
+use Rattle.kfs_laws.specs.Plain.{is_plain, ArePlain, AnsweredPlainly, PlainAnswer, no_memory}
 use Rattle.kfs_posix.specs.Mounting.{IsStored}
 use Rattle.kfs_posix.specs.Unplanned.{IsUnplanned}
 use Rattle.kfs_script.specs.Script.{script_of}
