@@ -1,4 +1,12 @@
-//! What the pages of a flash say: the anchors and the newest of them, and the groups of the log.
+//! What the pages of a flash say: the anchors and the newest of them, sorted runs, and the groups of the log.
+//!
+//! An anchor is the superblock: it names the runs of each level and where the log begins. `specs/Anchors.antt`
+//! says which of the pages in blocks 0 and 1 is the newest, `specs/Groups.antt` which pages from a place on
+//! are the log and which groups of entries they hold, `specs/RunPages.antt` the pages of a run.
+//!
+//! There is no state here, but laws: programming the next anchor or erasing the other block keeps the newest
+//! one (`anchor_laws.rt`), and a log that grows keeps its groups (`groups.rt`). Begin with
+//! `specs/Anchors.antt` and `specs/Groups.antt`. `kssd_image` puts these into what a whole image holds.
 #![tactic(auto)]
 
 mod anchor;

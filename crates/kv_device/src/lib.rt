@@ -1,4 +1,14 @@
-//! A device of objects with transactions, and one in memory.
+//! A device of objects with transactions, as an interface, and one in memory.
+//!
+//! `Device` is the contract between the host, which keeps a file system as objects, and the device that
+//! keeps these on flash. It speaks of a `Machine` (`specs/Machine.antt`): the stable objects, the open
+//! transactions with their changes, and counts of the cuts and faults that came. `specs/Calls.antt` says of
+//! each call what it answers and leaves, its refusals in order.
+//!
+//! What holds of each device at any time is `IsSound` (`specs/Calls.antt`). `MapDevice` is a device in
+//! memory that fails as it is planned to; the laws on transactions beside one another are in `apart.rt`.
+//! Begin with `device.rt` beside `specs/Calls.antt`. `kssd_engine` implements the interface on flash,
+//! `kfs_tx` and all host crates above it use it.
 #![tactic(auto)]
 
 mod apart;
