@@ -9,7 +9,7 @@ use Rattle.kssd_model.specs.declared.anchor.Found.{Found}
 use Rattle.kssd_model.specs.AnchorSpelling.{anchor_page, fits_anchor, HasSpelling}
 use Rattle.kssd_model.specs.Anchors.{newest_in, IsNewest, HasNone, AreOlder}
 use Rattle.kssd_model.proofs.NewestLaws.{newest_reads, newest_nothing, newest_erased, newest_left, newest_takes}
-use Rattle.kssd_anchor.specs.Places.{other_block, IsPlace, CanFollow, IsWritten, IsOldOrGiven, SameBehind, IsLeftByPlace}
+use Rattle.kssd_anchor.specs.Places.{other_block, IsAnchorPlace, CanFollow, IsWritten, IsOldOrGiven, SameBehind, IsLeftByPlace}
 
 -- the anchor before is known
 record Follows (image : Image) (last : ℕ) (a : Anchor) : Type 0 where
@@ -75,7 +75,7 @@ no_anchor : (image : Image) → ((page : ℕ) → page < 64 → image page ≡ E
 no_anchor image h = newest_nothing image 64 (λ page a lt stands. absurd (let e : Erased ≡ Whole (anchor_page a) = sym (h page lt) ∙ stands.state in cc))
 
 -- the place that was found is ready
-pub place_ready : (old mid : Image) (last : Option ℕ) (a : Anchor) (page : ℕ) → CanFollow old last a → IsPlace old last page mid → Ready old mid a page
+pub place_ready : (old mid : Image) (last : Option ℕ) (a : Anchor) (page : ℕ) → CanFollow old last a → IsAnchorPlace old last page mid → Ready old mid a page
 place_ready old mid None a page h place =
     subst (λ image. Ready old image a page) (sym place.1) (subst (Ready old old a) (sym place.0) (record {
       below = omega arith;
@@ -122,7 +122,7 @@ program_left old mid new a page ready left fits spelling = elim (newest_left mid
 pub program_behind : (old mid new : Image) (a : Anchor) (page : ℕ) → Ready old mid a page → LeftByProgram mid page (anchor_page a) new → SameBehind old new
 program_behind old mid new a page ready left = λ q le. left.elsewhere q (λ e. absurd (omega (arith, ready.below))) ∙ ready.behind q le
 
-pub program_done : (old mid new : Image) (last : Option ℕ) (a : Anchor) (page : ℕ) → IsPlace old last page mid → Ready old mid a page → new ≡ with_page mid page (Whole (anchor_page a)) → fits_anchor a ≡ true → HasSpelling a → IsWritten old last a page new
+pub program_done : (old mid new : Image) (last : Option ℕ) (a : Anchor) (page : ℕ) → IsAnchorPlace old last page mid → Ready old mid a page → new ≡ with_page mid page (Whole (anchor_page a)) → fits_anchor a ≡ true → HasSpelling a → IsWritten old last a page new
 program_done old mid new last a page place ready is fits spelling = record {
   ready = mid;
   place = place;

@@ -14,9 +14,9 @@ abbrev pub other_block : ℕ → ℕ
 other_block block = 1 - block
 
 -- the next page, and the image in which it is programmed: behind the last anchor in its block, or page 0 of the other block, erased before; without a last anchor page 0
-abbrev pub IsPlace : Image → Option ℕ → ℕ → Image → Type 0
-IsPlace old None page ready = (page ≡ 0) × (ready ≡ old)
-IsPlace old (Some last) page ready =
+abbrev pub IsAnchorPlace : Image → Option ℕ → ℕ → Image → Type 0
+IsAnchorPlace old None page ready = (page ≡ 0) × (ready ≡ old)
+IsAnchorPlace old (Some last) page ready =
     ((page / 32 ≡ last / 32) × MayProgram old page × (ready ≡ old))
     ⊎ (((q : ℕ) → q / 32 ≡ last / 32 → MayProgram old q → ⊥) × (page ≡ 32 * other_block (last / 32)) × (ready ≡ with_erased old (other_block (last / 32))))
 
@@ -32,7 +32,7 @@ IsLast image page number = IsSomeAnd (newest_in image) (λ found. (found.page �
 -- the anchor stands in its place and is the newest
 pub record IsWritten (old : Image) (last : Option ℕ) (anchor : Anchor) (page : ℕ) (new : Image) : Type 0 where
   pub ready : Image
-  pub place : IsPlace old last page ready
+  pub place : IsAnchorPlace old last page ready
   pub after : new ≡ with_page ready page (Whole (anchor_page anchor))
   pub newest : newest_in new ≡ Some (record { page = page; anchor = anchor })
 

@@ -5,7 +5,7 @@ ghost use Rattle.kv_nand.specs.Flash.{Erased, MayProgram};
 ghost use Rattle.kv_nand.specs.Faults.{flash_fault};
 ghost use Rattle.kv_nand.specs.Working.{Works, Stops, ops_more};
 ghost use Rattle.kssd_model.specs.AnchorSpelling.{HasSpelling};
-ghost use Rattle.kssd_anchor.specs.Places.{IsFree, IsPlace, IsLeftByPlace, CanFollow, IsWritten, IsOldOrGiven, SameBehind, has_free, erases_before, write_cost};
+ghost use Rattle.kssd_anchor.specs.Places.{IsFree, IsAnchorPlace, IsLeftByPlace, CanFollow, IsWritten, IsOldOrGiven, SameBehind, has_free, erases_before, write_cost};
 
 use crate::spelling::page_of;
 use kssd_layout::PAGES_PER_BLOCK;
@@ -54,7 +54,7 @@ fn free_page<N: Nand>(
 fn next_place<N: Nand>(alloc: Global, nand: &mut N, last: Option<u32>) -> Result<u32, FlashFault>
     requires blocks { 2 ≤ (N.flash nand.old).blocks }
     requires last { ForSome last (λ page. page < 64) }
-    ensures ok { IfOk result (λ page. IsPlace (N.flash nand.old).image last page (N.flash nand.new).image) }
+    ensures ok { IfOk result (λ page. IsAnchorPlace (N.flash nand.old).image last page (N.flash nand.new).image) }
     ensures works { OnOk result (Works (N.flash nand.old) (N.flash nand.new) 1 32) }
     ensures stops { IfErr result (λ fault. Stops (N.flash nand.old) fault (N.flash nand.new) 1 32) }
     ensures within { IfErr result (λ fault. Stops (N.flash nand.old) fault (N.flash nand.new) (erases_before (N.flash nand.old).image last) 32) }

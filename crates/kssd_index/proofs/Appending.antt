@@ -12,7 +12,7 @@ use Rattle.kssd_image.specs.Whole.{IsLogWhole, log_of, pages_named, age_in}
 use Rattle.kssd_log.specs.declared.place.Place.{Place}
 use Rattle.kssd_log.specs.Ring.{IsBehind, room_of, turns_for}
 use Rattle.kssd_log.specs.Append as ring
-use Rattle.kssd_log.specs.Append.{IsPlace, IsTorn, MayAppend, StaysOutside, pages_of}
+use Rattle.kssd_log.specs.Append.{IsLogPlace, IsTorn, MayAppend, StaysOutside, pages_of}
 use Rattle.kssd_frames.specs.Logging.{groups_by}
 use Rattle.kssd_frames.proofs.Lookups.{merge_more, merge_three}
 use Rattle.kssd_frames.proofs.ShownLaws.{log_rises}
@@ -130,7 +130,7 @@ pub record EndBehind (index : Index) (blocks : ℕ) (old : Image) (entries : Lis
   pub whole : IsLogWhole new (log_of new (later_of index))
 
 pub ends_behind : (index : Index) (blocks : ℕ) (old : Image) (new : Flash) (entries : List Entry) (after : Place) → HasBytes old → IsPlaced index blocks old entries
-    → ring.Appends (turns_for index.ring (pages_of entries)) old index.ring entries new.image after → IsBehind index.ring (pages_of entries) (turns_for index.ring (pages_of entries)) after → IsPlace new after
+    → ring.Appends (turns_for index.ring (pages_of entries)) old index.ring entries new.image after → IsBehind index.ring (pages_of entries) (turns_for index.ring (pages_of entries)) after → IsLogPlace new after
     → EndBehind index blocks old entries after new.image
 ends_behind index blocks old new entries after has h appends behind place =
     let n = has_numbers index blocks old entries h in
@@ -217,7 +217,7 @@ left_appended index blocks old new entries after has h appends outside behind =
 
 pub stands_behind : (index : Index) (old new : Flash) (entries : List Entry) (after : Place) (table : List Entry) (age : ℕ) → HasBytes old.image → IsPlaced index old.blocks old.image entries
     → ring.Appends (turns_for index.ring (pages_of entries)) old.image index.ring entries new.image after → StaysOutside old.image new.image
-    → IsBehind index.ring (pages_of entries) (turns_for index.ring (pages_of entries)) after → IsPlace new after
+    → IsBehind index.ring (pages_of entries) (turns_for index.ring (pages_of entries)) after → IsLogPlace new after
     → new.blocks ≡ old.blocks → table ≡ merged entries index.table → age ≡ max index.age (after.seq - 1)
     → IsIndex (record { root = index.root; table = table; older = index.older; ring = after; age = age; job = index.job }) new.blocks new.image
 stands_behind index old new entries after table age has h appends outside behind place same is aged =

@@ -5,7 +5,7 @@ use Rattle.kv_nand.specs.Calls.{erased}
 use Rattle.kssd_model.specs.Groups.{HasLog, seen, next_block}
 use Rattle.kssd_model.proofs.GroupsPaths.{next_in_ring, ends_in_ring}
 use Rattle.kssd_log.specs.Ring.{begun}
-use Rattle.kssd_log.specs.Append.{IsPlace, KeepsLogs, StaysOutside}
+use Rattle.kssd_log.specs.Append.{IsLogPlace, KeepsLogs, StaysOutside}
 use Rattle.kssd_log.proofs.Turning.{erased_log, is_erased}
 
 pub begin_keeps : (old new : Image) (last : ℕ) → LeftByErase old (next_block last) new → KeepsLogs last old new
@@ -19,7 +19,7 @@ begin_outside old new last low high by q out =
     let n = next_in_ring last low (omega arith) in
     by.elsewhere q (λ e. elim out [ inl l ↦ absurd (omega (arith, n.1)) | inr l ↦ absurd (omega (arith, n.2)) ])
 
-pub begin_place : (old new : Flash) (last seq : ℕ) → 256 ≤ old.blocks → new ≡ erased old (next_block last) → IsPlace new (begun (next_block last) seq)
+pub begin_place : (old new : Flash) (last seq : ℕ) → 256 ≤ old.blocks → new ≡ erased old (next_block last) → IsLogPlace new (begun (next_block last) seq)
 begin_place old new last seq blocks e = record {
   free = record {
     here = is_erased old new (next_block last) (32 * next_block last) e (omega arith);

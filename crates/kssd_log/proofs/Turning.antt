@@ -12,7 +12,7 @@ use Rattle.kssd_model.proofs.GroupsPaths.{log_stays, log_grows, log_after_erase,
 use Rattle.kssd_model.proofs.GroupsPages.{spelled_seen}
 use Rattle.kssd_log.specs.declared.place.Place.{Place}
 use Rattle.kssd_log.specs.Ring.{IsRingPage, IsInRing, turned}
-use Rattle.kssd_log.specs.Append.{IsPlace, HasGroups, Carries, KeepsGroups, StaysOutside}
+use Rattle.kssd_log.specs.Append.{IsLogPlace, HasGroups, Carries, KeepsGroups, StaysOutside}
 
 pub on_err : {A E : Type 0} (r : Result A E) (P : Type 0) → P → OnErr r P
 on_err (Ok x) P p = tt
@@ -55,7 +55,7 @@ erased_outside old mid place ring by q out =
     by.elsewhere q (λ e. elim out [ inl l ↦ absurd (omega (arith, n.1)) | inr l ↦ absurd (omega (arith, n.2)) ])
 
 -- the place's own block is as before
-pub erased_place : (old mid : Flash) (place : Place) → IsRingPage place.page → IsPlace old place → mid ≡ erased old (next_of place) → IsPlace mid place
+pub erased_place : (old mid : Flash) (place : Place) → IsRingPage place.page → IsLogPlace old place → mid ≡ erased old (next_of place) → IsLogPlace mid place
 erased_place old mid place ring at e = record {
   free = record {
     here = other place.page refl ∙ at.free.here;
@@ -115,14 +115,14 @@ turn_left mid new place page number turns groups rest free next other fits left 
 other_page : (place : Place) → IsRingPage place.page → 32 * next_of place ≢ place.page
 other_page place ring h = (next_differs place ring).0 (sym (ap (λ q. q / 32) h) ∙ (let s : 32 * next_of place / 32 ≡ next_of place = omega arith in s))
 
-pub turned_keeps : (old mid : Flash) (new : Image) (place : Place) (rest : List Entry) → IsRingPage place.page → IsPlace old place → place.seq + 1 < 2 ^ 64 → mid ≡ erased old (next_of place) → LeftByErase old.image (next_of place) mid.image
+pub turned_keeps : (old mid : Flash) (new : Image) (place : Place) (rest : List Entry) → IsRingPage place.page → IsLogPlace old place → place.seq + 1 < 2 ^ 64 → mid ≡ erased old (next_of place) → LeftByErase old.image (next_of place) mid.image
     → LeftByProgram mid.image place.page (turn_page place.seq) new → KeepsGroups 1 0 old.image place rest new
 turned_keeps old mid new place rest ring at number e by program page first turns groups of few log =
     let here = erased_place old mid place ring at e in
     turn_left mid.image new place page first turns groups rest here.free.here (is_erased old mid (next_of place) (32 * next_of place) e (omega arith)) (other_page place ring) number program
     (erased_log old.image mid.image place page first turns groups rest ring by of few log)
 
-pub turned_carries : (old mid new : Flash) (place : Place) (rest : List Entry) → IsRingPage place.page → IsPlace old place → place.seq + 1 < 2 ^ 64 → mid ≡ erased old (next_of place) → LeftByErase old.image (next_of place) mid.image
+pub turned_carries : (old mid new : Flash) (place : Place) (rest : List Entry) → IsRingPage place.page → IsLogPlace old place → place.seq + 1 < 2 ^ 64 → mid ≡ erased old (next_of place) → LeftByErase old.image (next_of place) mid.image
     → LeftByProgram mid.image place.page (turn_page place.seq) new.image → new ≡ programmed mid place.page (turn_page place.seq) → Carries 1 old.image place rest new.image (turned place) rest
 turned_carries old mid new place rest ring at number e by program p page first turns groups of few log =
     let here = erased_place old mid place ring at e in
@@ -135,7 +135,7 @@ turned_ring place ring =
     let n = next_differs place ring.page in
     record { page = record { low = omega (arith, n.1); high = omega (arith, n.2) }; few = omega (arith, ring.few) }
 
-pub turned_place : (old mid new : Flash) (place : Place) (bytes : List ℕ) → IsRingPage place.page → IsPlace old place → mid ≡ erased old (next_of place) → new ≡ programmed mid place.page bytes → IsPlace new (turned place)
+pub turned_place : (old mid new : Flash) (place : Place) (bytes : List ℕ) → IsRingPage place.page → IsLogPlace old place → mid ≡ erased old (next_of place) → new ≡ programmed mid place.page bytes → IsLogPlace new (turned place)
 turned_place old mid new place bytes ring at e p = record {
   free = record {
     here = there (32 * next_of place) (omega arith);

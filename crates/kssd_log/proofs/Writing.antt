@@ -17,13 +17,13 @@ use Rattle.kssd_model.proofs.GroupsPaths.{log_stays, log_grows}
 use Rattle.kssd_model.proofs.GroupsPages.{spelled_seen}
 use Rattle.kssd_log.specs.declared.place.Place.{Place}
 use Rattle.kssd_log.specs.Ring.{IsInRing, paged, room_of, turns_due, turns_for, IsBehind}
-use Rattle.kssd_log.specs.Append.{IsPlace, HasGroups, Carries, Appends, KeepsGroups, MayAppend, StaysOutside, IsUnderWay}
+use Rattle.kssd_log.specs.Append.{IsLogPlace, HasGroups, Carries, Appends, KeepsGroups, MayAppend, StaysOutside, IsUnderWay}
 use Rattle.kssd_log.proofs.Counting.{some_packed, behind_then, behind_still, paged_behind, turns_fit, turns_are, number_fits}
 
 -- ---- one page
 
 -- behind a page of a group, in its block
-pub place_after : (old new : Flash) (at : Place) (bytes : List ℕ) → IsPlace old at → new ≡ programmed old at.page bytes → at.page % 32 < 31 → IsPlace new (paged at)
+pub place_after : (old new : Flash) (at : Place) (bytes : List ℕ) → IsLogPlace old at → new ≡ programmed old at.page bytes → at.page % 32 < 31 → IsLogPlace new (paged at)
 place_after old new at bytes place e inner = record {
   free = record {
     here = other (at.page + 1) (λ e. absurd (omega arith)) ∙ place.free.later (at.page + 1) (omega arith) (omega arith);
@@ -54,7 +54,7 @@ begins_then a b c first more ab bc = (works_then_works a b c first 0 more 0 ab.0
 
 -- ---- entries in the packer
 
-pub under_way_begins : (old : Flash) (place : Place) → IsSound old → IsPlace old place → IsUnderWay old place old place (record { bytes = []; count = 0 }) []
+pub under_way_begins : (old : Flash) (place : Place) → IsSound old → IsLogPlace old place → IsUnderWay old place old place (record { bytes = []; count = 0 }) []
 under_way_begins old place sound at = record {
   done = [];
   open_ = [];
@@ -114,7 +114,7 @@ head_is flags number count low some = rw (le-leb _ _ low, le-leb _ _ some) refl
 
 -- where the page is whole, the log has it
 log_with_page : (now : Flash) (new : Image) (at : Place) (flags page number turns : ℕ) (groups : List (List Entry)) (done open_ : List Entry)
-    → IsPlace now at → at.page % 32 < 31 → flags ≤ 1 → IsPageOf 2 (log_head flags at.seq) open_ → LeftByProgram now.image at.page (page_of (log_head flags at.seq) open_) new
+    → IsLogPlace now at → at.page % 32 < 31 → flags ≤ 1 → IsPageOf 2 (log_head flags at.seq) open_ → LeftByProgram now.image at.page (page_of (log_head flags at.seq) open_) new
     → new at.page ≡ Whole (page_of (log_head flags at.seq) open_)
     → HasLog now.image page number groups done turns at.page at.seq
     → HasLog new page number (groups ++ groups_from done (page_is flags open_ ∷ [])) (rest_from done (page_is flags open_ ∷ [])) turns (at.page + 1) (at.seq + 1)
@@ -128,7 +128,7 @@ log_with_page now new at flags page number turns groups done open_ place inner l
 
 -- whatever the answer, the groups are as before, or as with the page
 groups_left : (now : Flash) (new : Image) (at : Place) (flags page number turns most_turns most_next : ℕ) (groups : List (List Entry)) (done open_ : List Entry)
-    → IsPlace now at → at.page % 32 < 31 → flags ≤ 1 → IsPageOf 2 (log_head flags at.seq) open_ → LeftByProgram now.image at.page (page_of (log_head flags at.seq) open_) new
+    → IsLogPlace now at → at.page % 32 < 31 → flags ≤ 1 → IsPageOf 2 (log_head flags at.seq) open_ → LeftByProgram now.image at.page (page_of (log_head flags at.seq) open_) new
     → turns ≤ most_turns → at.seq + 1 ≤ most_next
     → HasLog now.image page number groups done turns at.page at.seq
     → HasGroups new page number groups done most_turns most_next ⊎ HasGroups new page number (groups ++ groups_from done (page_is flags open_ ∷ [])) (rest_from done (page_is flags open_ ∷ [])) most_turns most_next
@@ -258,7 +258,7 @@ middle_done old place now new at packer taken total w p e works = record {
 -- ---- turns inside the group
 
 pub under_way_turns : (old : Flash) (place : Place) (now : Flash) (at : Place) (new : Flash) (next : Place) (packer : Packed) (taken : List Entry) (due : ℕ)
-    → IsUnderWay old place now at packer taken → ((rest : List Entry) → Carries due now.image at rest new.image next rest) → IsPlace new next → StaysOutside now.image new.image → IsBehind at 0 due next → Begins now new (2 * due)
+    → IsUnderWay old place now at packer taken → ((rest : List Entry) → Carries due now.image at rest new.image next rest) → IsLogPlace new next → StaysOutside now.image new.image → IsBehind at 0 due next → Begins now new (2 * due)
     → IsUnderWay old place new next packer taken
 under_way_turns old place now at new next packer taken due w carries is outside behind works = record {
   done = w.done;
@@ -317,7 +317,7 @@ pub record IsReady (old : Flash) (place : Place) (now : Flash) (at : Place) (pac
   pub less : way.pages + 1 ≤ total
 
 pub ready : (old : Flash) (place : Place) (now : Flash) (at : Place) (new : Flash) (next : Place) (packer : Packed) (taken : List Entry) (total : ℕ)
-    → (w : IsUnderWay old place now at packer taken) → ((rest : List Entry) → Carries (turns_due at) now.image at rest new.image next rest) → IsPlace new next → StaysOutside now.image new.image → IsBehind at 0 (turns_due at) next → Begins now new (2 * turns_due at)
+    → (w : IsUnderWay old place now at packer taken) → ((rest : List Entry) → Carries (turns_due at) now.image at rest new.image next rest) → IsLogPlace new next → StaysOutside now.image new.image → IsBehind at 0 (turns_due at) next → Begins now new (2 * turns_due at)
     → next.page % 32 < 31 → IsInRing next → 0 < room_of at → w.pages + 1 ≤ total → IsReady old place new next packer taken total
 ready old place now at new next packer taken total w carries is outside behind works inner ring room less =
     let way : IsUnderWay old place new next packer taken = under_way_turns old place now at new next packer taken (turns_due at) w carries is outside behind works in

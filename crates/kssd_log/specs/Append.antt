@@ -20,7 +20,7 @@ abbrev pub pages_of : List Entry → ℕ
 pages_of entries = pages_more 4096 entries
 
 -- the pages of the block from the place on are Erased, and those before it aren't, as it is where a log ends here; the device has the ring's blocks
-pub record IsPlace (flash : Flash) (place : Place) : Type 0 where
+pub record IsLogPlace (flash : Flash) (place : Place) : Type 0 where
   pub free : MayProgram flash.image place.page
   pub blocks : 256 ≤ flash.blocks
 
@@ -80,7 +80,7 @@ pub record IsUnderWay (old : Flash) (place : Place) (now : Flash) (at : Place) (
   pub fits : AllByRecursion FitsEntry open_
   pub log : Carries moved old.image place [] now.image at done
   pub outside : StaysOutside old.image now.image
-  pub place_is : IsPlace now at
+  pub place_is : IsLogPlace now at
   pub behind : IsBehind place pages moved at
   pub works : Works old now (pages + 2 * moved) 0
   pub exact : now.ops ≡ ops_more old (pages + 2 * moved)

@@ -2,7 +2,7 @@
 ghost use Rattle.std.specs.Prelude.{◌≡◌, ◌≤◌, ◌<◌, ◌+◌, ◌*◌, ◌^◌, length, OnOk, OnErr, IfErr};
 ghost use Rattle.kv_nand.specs.Working.{Works, Stops, ops_more};
 ghost use Rattle.kssd_log.specs.Ring.{IsInRing, IsBehind, room_of, turns_for};
-ghost use Rattle.kssd_log.specs.Append.{IsPlace, pages_of, MayAppend, Appends, StaysOutside};
+ghost use Rattle.kssd_log.specs.Append.{IsLogPlace, pages_of, MayAppend, Appends, StaysOutside};
 
 use crate::place::Place;
 use kssd_entry::{Entries, Offer, PagePacker};
@@ -38,7 +38,7 @@ impl Place {
         entries: &Entries,
     ) -> Result<(), FlashFault>
         requires ring { IsInRing self.old }
-        requires place { IsPlace (N.flash nand.old) self.old }
+        requires place { IsLogPlace (N.flash nand.old) self.old }
         requires number { self.old.seq < 2 ^ 63 }
         requires some { 0 < length entries.now }
         requires room { pages_of entries.now ≤ room_of self.old }
@@ -46,7 +46,7 @@ impl Place {
         ensures ok { OnOk result (Appends (turns_for self.old (pages_of entries.now)) (N.flash nand.old).image self.old entries.now (N.flash nand.new).image self.new) }
         ensures err { OnErr result (MayAppend (turns_for self.old (pages_of entries.now)) (pages_of entries.now) (N.flash nand.old).image self.old entries.now (N.flash nand.new).image) }
         ensures outside { StaysOutside (N.flash nand.old).image (N.flash nand.new).image }
-        ensures place { OnOk result (IsPlace (N.flash nand.new) self.new) }
+        ensures place { OnOk result (IsLogPlace (N.flash nand.new) self.new) }
         ensures behind { OnOk result (IsBehind self.old (pages_of entries.now) (turns_for self.old (pages_of entries.now)) self.new) }
         ensures works { OnOk result (Works (N.flash nand.old) (N.flash nand.new) (pages_of entries.now + 2 * turns_for self.old (pages_of entries.now)) 0) }
         ensures exact { OnOk result ((N.flash nand.new).ops ≡ ops_more (N.flash nand.old) (pages_of entries.now + 2 * turns_for self.old (pages_of entries.now))) }

@@ -7,7 +7,7 @@ ghost use Rattle.kv_nand.specs.Working.{Works, Stops, ops_more};
 ghost use Rattle.kssd_entry.specs.Spelling.{page_bytes, page_of};
 ghost use Rattle.kssd_model.specs.Groups.{log_head, next_block};
 ghost use Rattle.kssd_log.specs.Ring.{IsInRing, paged, turned};
-ghost use Rattle.kssd_log.specs.Append.{IsPlace};
+ghost use Rattle.kssd_log.specs.Append.{IsLogPlace};
 
 use kssd_entry::{PageHead, PagePacker};
 use kv_nand::{Nand, NandFault};
@@ -29,7 +29,7 @@ impl Place {
         flags: u8,
     ) -> Result<(), NandFault>
         requires ring { IsInRing self.old }
-        requires place { IsPlace (N.flash nand.old) self.old }
+        requires place { IsLogPlace (N.flash nand.old) self.old }
         requires inner { self.old.page % 32 < 31 }
         requires number { self.old.seq + 1 < 2 ^ 64 }
         requires size { length packer.old.bytes ≤ 4096 }
@@ -63,7 +63,7 @@ impl Place {
         next: u16,
     ) -> Result<(), NandFault>
         requires ring { IsInRing self.old }
-        requires place { IsPlace (N.flash nand.old) self.old }
+        requires place { IsLogPlace (N.flash nand.old) self.old }
         requires number { self.old.seq + 1 < 2 ^ 64 }
         requires empty { packer.old ≡ record { bytes = []; count = 0 } }
         requires next { next ≡ next_block (self.old.page / 32) }

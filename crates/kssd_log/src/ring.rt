@@ -3,7 +3,7 @@ ghost use Rattle.std.specs.Prelude.{◌≡◌, ◌≤◌, ◌<◌, ◌+◌, ◌*
 ghost use Rattle.kv_nand.specs.Working.{Works, Stops, ops_more};
 ghost use Rattle.kssd_entry.specs.declared.entry.Entry.{Entry};
 ghost use Rattle.kssd_log.specs.Ring.{IsInRing, IsBehind, begun, turned, room_of, turns_for};
-ghost use Rattle.kssd_log.specs.Append.{IsPlace, pages_of, Appends, MayAppend, Carries, KeepsGroups, KeepsLogs, StaysOutside};
+ghost use Rattle.kssd_log.specs.Append.{IsLogPlace, pages_of, Appends, MayAppend, Carries, KeepsGroups, KeepsLogs, StaysOutside};
 ghost use Rattle.kv_nand.specs.Faults.{flash_fault};
 ghost use Rattle.kssd_model.specs.Groups.{HasLog, next_block};
 
@@ -60,7 +60,7 @@ impl Ring {
         requires number { seq < 2 ^ 63 }
         requires blocks { 256 ≤ (N.flash nand.old).blocks }
         ensures ok { IfOk result (λ ring. ring ≡ begun (next_block last) seq) }
-        ensures place { IfOk result (λ ring. IsPlace (N.flash nand.new) ring) }
+        ensures place { IfOk result (λ ring. IsLogPlace (N.flash nand.new) ring) }
         ensures empty { IfOk result (λ ring. HasLog (N.flash nand.new).image ring.page ring.seq [] [] 0 ring.page ring.seq) }
         ensures kept { KeepsLogs last (N.flash nand.old).image (N.flash nand.new).image }
         ensures outside { StaysOutside (N.flash nand.old).image (N.flash nand.new).image }
@@ -106,14 +106,14 @@ impl Ring {
         nand: &mut N,
         entries: &Entries,
     ) -> Result<(), FlashFault>
-        requires place { IsPlace (N.flash nand.old) self.old }
+        requires place { IsLogPlace (N.flash nand.old) self.old }
         requires number { self.old.seq < 2 ^ 63 }
         requires size { (1 ≤ length entries.now) × (length entries.now ≤ 640) }
         requires room { pages_of entries.now ≤ room_of self.old }
         ensures ok { OnOk result (Appends (turns_for self.old (pages_of entries.now)) (N.flash nand.old).image self.old entries.now (N.flash nand.new).image self.new) }
         ensures err { OnErr result (MayAppend (turns_for self.old (pages_of entries.now)) (pages_of entries.now) (N.flash nand.old).image self.old entries.now (N.flash nand.new).image) }
         ensures outside { StaysOutside (N.flash nand.old).image (N.flash nand.new).image }
-        ensures place { OnOk result (IsPlace (N.flash nand.new) self.new) }
+        ensures place { OnOk result (IsLogPlace (N.flash nand.new) self.new) }
         ensures behind { OnOk result (IsBehind self.old (pages_of entries.now) (turns_for self.old (pages_of entries.now)) self.new) }
         ensures works { OnOk result (Works (N.flash nand.old) (N.flash nand.new) (pages_of entries.now + 2 * turns_for self.old (pages_of entries.now)) 0) }
         ensures exact { OnOk result ((N.flash nand.new).ops ≡ ops_more (N.flash nand.old) (pages_of entries.now + 2 * turns_for self.old (pages_of entries.now))) }
@@ -125,10 +125,10 @@ impl Ring {
     /// Erases the next ring block, programs a turn page, and goes on in page 0 of that block. The
     /// groups are as before, also after a fault.
     pub fn turn<N: Nand>(&mut self, alloc: Global, nand: &mut N) -> Result<(), FlashFault>
-        requires place { IsPlace (N.flash nand.old) self.old }
+        requires place { IsLogPlace (N.flash nand.old) self.old }
         requires number { self.old.seq < 2 ^ 63 }
         ensures next { OnOk result (self.new ≡ turned self.old) }
-        ensures place { OnOk result (IsPlace (N.flash nand.new) self.new) }
+        ensures place { OnOk result (IsLogPlace (N.flash nand.new) self.new) }
         ensures ok { OnOk result ((rest : List Entry) → Carries 1 (N.flash nand.old).image self.old rest (N.flash nand.new).image self.new rest) }
         ensures err { OnErr result ((rest : List Entry) → KeepsGroups 1 0 (N.flash nand.old).image self.old rest (N.flash nand.new).image) }
         ensures outside { StaysOutside (N.flash nand.old).image (N.flash nand.new).image }
@@ -143,10 +143,10 @@ impl Ring {
     /// groups begins, which ends where each longer log ends: what is added belongs to both. The
     /// groups are as before, also after a fault.
     pub fn turn_anew<N: Nand>(&mut self, alloc: Global, nand: &mut N) -> Result<(), FlashFault>
-        requires place { IsPlace (N.flash nand.old) self.old }
+        requires place { IsLogPlace (N.flash nand.old) self.old }
         requires number { self.old.seq < 2 ^ 63 }
         ensures next { OnOk result (self.new ≡ begun (next_block (self.old.page / 32)) (self.old.seq + 1)) }
-        ensures place { OnOk result (IsPlace (N.flash nand.new) self.new) }
+        ensures place { OnOk result (IsLogPlace (N.flash nand.new) self.new) }
         ensures empty { OnOk result (HasLog (N.flash nand.new).image self.new.page self.new.seq [] [] 0 self.new.page self.new.seq) }
         ensures ok { OnOk result ((rest : List Entry) → Carries 1 (N.flash nand.old).image self.old rest (N.flash nand.new).image self.new rest) }
         ensures err { OnErr result ((rest : List Entry) → KeepsGroups 1 0 (N.flash nand.old).image self.old rest (N.flash nand.new).image) }

@@ -1,5 +1,5 @@
 ghost use Rattle.std.specs.Prelude.{◌≡◌, ◌≤◌, ◌<◌, ◌^◌, IfSome, OnOk};
-ghost use Rattle.kssd_log.specs.Append.{IsPlace};
+ghost use Rattle.kssd_log.specs.Append.{IsLogPlace};
 
 use crate::entries::{gone, put};
 use kssd_entry::{Entries, Entry, PageHead, PagePacker};
@@ -31,8 +31,8 @@ fn add<N: Nand>(
     ring: &mut Ring,
     entries: &Entries,
 ) -> Option<Result<(), FlashFault>>
-    requires { IsPlace (N.flash nand.old) ring.old }
-    ensures { IfSome result (λ answer. OnOk answer (IsPlace (N.flash nand.new) ring.new)) }
+    requires { IsLogPlace (N.flash nand.old) ring.old }
+    ensures { IfSome result (λ answer. OnOk answer (IsLogPlace (N.flash nand.new) ring.new)) }
 {
     if entries.len() < 1 || entries.len() > 640 || ring.seq() > 1_000_000 {
         return None;
@@ -50,8 +50,8 @@ fn add_all<N: Nand>(
     ring: &mut Ring,
     sizes: &[u32],
 ) -> Option<Result<(), FlashFault>>
-    requires { IsPlace (N.flash nand.old) ring.old }
-    ensures { IfSome result (λ answer. OnOk answer (IsPlace (N.flash nand.new) ring.new)) }
+    requires { IsLogPlace (N.flash nand.old) ring.old }
+    ensures { IfSome result (λ answer. OnOk answer (IsLogPlace (N.flash nand.new) ring.new)) }
 {
     for size in sizes {
         let entries = group(alloc, *size)?;
@@ -71,8 +71,8 @@ enum Plan {
 }
 
 fn set_plan<N: PlannedNand>(nand: &mut N, ring: &Ring, plan: Plan)
-    requires { IsPlace (N.flash nand.old) ring.now }
-    ensures { IsPlace (N.flash nand.new) ring.now }
+    requires { IsLogPlace (N.flash nand.old) ring.now }
+    ensures { IsLogPlace (N.flash nand.new) ring.now }
 {
     match plan {
         Plan::Nothing => {}
@@ -91,7 +91,7 @@ fn set_plan<N: PlannedNand>(nand: &mut N, ring: &Ring, plan: Plan)
 
 // A ring at a block that is erased for it, with the power on.
 fn ring_at<N: Nand>(nand: &mut N, block: u16, seq: u64) -> Option<Ring>
-    ensures { IfSome result (λ ring. IsPlace (N.flash nand.new) ring) }
+    ensures { IfSome result (λ ring. IsLogPlace (N.flash nand.new) ring) }
 {
     nand.power_on();
     if nand.blocks() < 256 || block < 2 || block > 19 || seq > 1_000_000 {
@@ -277,8 +277,8 @@ fn turn_all<N: Nand>(
     ring: &mut Ring,
     turns: u32,
 ) -> Result<(), FlashFault>
-    requires { IsPlace (N.flash nand.old) ring.old }
-    ensures { OnOk result (IsPlace (N.flash nand.new) ring.new) }
+    requires { IsLogPlace (N.flash nand.old) ring.old }
+    ensures { OnOk result (IsLogPlace (N.flash nand.new) ring.new) }
 {
     for _ in 0..turns {
         if ring.seq() > 1_000_000 {

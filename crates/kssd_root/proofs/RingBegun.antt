@@ -12,7 +12,7 @@ use Rattle.kssd_image.proofs.LogDamage.{path_is_short, turns_within}
 use Rattle.kssd_image.specs.Stages.{entries_of}
 use Rattle.kssd_image.specs.Whole.{log_of, IsLogWhole, age_by, age_in}
 use Rattle.kssd_log.specs.Ring.{begun}
-use Rattle.kssd_log.specs.Append.{IsPlace, StaysOutside, KeepsLogs}
+use Rattle.kssd_log.specs.Append.{IsLogPlace, StaysOutside, KeepsLogs}
 use Rattle.kssd_frames.specs.Logging.{groups_by}
 use Rattle.kssd_frames.proofs.ShownLaws.{all_logged}
 use Rattle.kssd_frames.proofs.SameImages.{log_ends_in_ring}
@@ -94,7 +94,7 @@ last_in_ring page anchor blocks image last h e =
     let p = log_ends_in_ring image (32 * anchor.log_block) anchor.log_seq (omega (arith, form.log_low)) (omega (arith, form.log_high)) in
     (omega (arith, p.0, e), omega (arith, p.1, e))
 
-pub clean_from : (flash : Flash) (block seq : ℕ) → IsPlace flash (begun block seq) → IsCleanBlock block flash.image
+pub clean_from : (flash : Flash) (block seq : ℕ) → IsLogPlace flash (begun block seq) → IsCleanBlock block flash.image
 clean_from flash block seq h q at = elim (cases_lt (32 * block) q) [
   | inl more ↦ h.free.later q (omega (arith, at)) more
   | inr le ↦ let e : 32 * block ≡ q = omega (arith, at) in subst (λ (p : ℕ). flash.image p ≡ Erased) e h.free.here

@@ -1,7 +1,7 @@
 use Rattle.std.proofs.Common.{ℕ, sym, ap, subst}
 use Rattle.kv_nand.specs.Flash.{Flash}
 use Rattle.kssd_model.specs.Groups.{next_block}
-use Rattle.kssd_log.specs.Append.{IsPlace}
+use Rattle.kssd_log.specs.Append.{IsLogPlace}
 use Rattle.kssd_root.specs.Standing.{IsRoot}
 use Rattle.kssd_root.proofs.Logs.{has_bytes}
 use Rattle.kssd_root.proofs.RingBegun.{last_in_ring, next_in, ring_left, clean_from}
@@ -49,7 +49,7 @@ returns-clause-aged g c =
 
 pub returns-clause-clean : goal.returns-clause-clean
 returns-clause-clean g c =
-    clean_from (g.N.Nand.flash c.begin.new.nand) (next_block c.args.last_block) c.args.next_seq (subst (IsPlace (g.N.Nand.flash c.begin.new.nand)) c.in_ok-ring.ensures.ok c.in_ok-ring.ensures.place)
+    clean_from (g.N.Nand.flash c.begin.new.nand) (next_block c.args.last_block) c.args.next_seq (subst (IsLogPlace (g.N.Nand.flash c.begin.new.nand)) c.in_ok-ring.ensures.ok c.in_ok-ring.ensures.place)
 
 pub returns-clause-age : goal.returns-clause-age
 returns-clause-age g c =
