@@ -1,4 +1,15 @@
 //! Laws of the file system's definitions. The functions do nothing: their contracts are the laws.
+//!
+//! What holds of the abstract machine of `kfs_model`, whatever carries it out: an error changes nothing, each call
+//! leaves a tree with its open files and keeps the room, what a tree is charged changes by what goes and comes, and
+//! where no cut and no fault is planned nothing fails but for want of memory.
+//!
+//! The invariant of the file calls is `IsWhole` (`specs/WholeCalls.antt`): what makes a tree and what makes a desk,
+//! each open node is there, and each node is named or open. `each_call_leaves_a_tree_with_its_open_files` says that a
+//! root alone with nothing open has it, and that each call keeps it.
+//!
+//! Begin with `specs/Laws.antt` and `specs/WholeCalls.antt`. `kfs_shows`, `kfs_core`, `kfs_posix` and `kfs_load` cite
+//! the lemmas behind the laws, which stand in `proofs/`; `kfs_runner` cites `specs/Plain.antt`.
 #![tactic(auto)]
 
 ghost use Rattle.kfs_laws.specs.Laws.{ErrorsChangeNothing, NextRisesByOneAtMost, LookingLeavesTheTree, NoChangeLeavesTheTree, NamedIsATree, SweptIsATree, NewContentIsATree, NewNodeIsATree, UnnamingIsATree, RenameIsATree, NewNodeIsCharged, NewContentIsCharged, WhatGoesIsChargedNoMore, FitsIsTheMost, EachCallKeepsTheDesk};

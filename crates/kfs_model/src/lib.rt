@@ -1,4 +1,16 @@
 //! The definitions of the file system's plain tree, and the types that they speak of.
+//!
+//! The abstract machine of a file system with the calls of POSIX: a tree of nodes, a desk of open files, a function
+//! `step` that gives each call's reply and effect, and lives, in which power cuts, faults and mounts come between calls
+//! or within them. Nothing here speaks of objects or of flash.
+//!
+//! Invariant: `IsTree` (`specs/Tree.antt`) says what makes a tree: the root is a directory, every other place lies in a
+//! directory, no two places name one node, and every number is below the next one. That each call leaves one is a law
+//! of `kfs_laws`. `Life` (`specs/Life.antt`) says which answers to which lines lead from one state to another.
+//!
+//! Begin with `Tree` and `walk` in `specs/Tree.antt`, then `effect` and `step` in `specs/Step.antt`, `weight` in
+//! `specs/Change.antt`, and `EventAt` in `specs/Life.antt`. `kfs_plain` computes `step`, `kfs_laws` has its laws, and
+//! `kfs_posix` shows that each call of a session and its reply are an event of a life.
 #![tactic(auto)]
 
 mod endings;

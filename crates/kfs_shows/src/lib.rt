@@ -1,4 +1,15 @@
 //! Which objects show which tree. The functions do nothing: their contracts are laws.
+//!
+//! The abstraction relation between the key-value map below and the tree above: `Shows` (`specs/Shows.antt`) says by
+//! look-ups that the objects have the inodes, entries, chunks and orphans of a tree, that no key is of another form,
+//! and that the super holds the number of changes and the next number.
+//!
+//! Main laws: each change of the objects that a call makes leads from objects that show a tree to objects that show the
+//! tree after it (`specs/Laws.antt`, and with open files `ShowsWorld` in `specs/Sweeping.antt`). Objects show one tree
+//! at most, while its numbers are below 2^63 (`shows_once`), and they fit its charge (`objects_fit`).
+//!
+//! Begin with `specs/Shows.antt`, then `MakingShows` and `ContentShows` in `specs/Laws.antt`. `Stands` of `kfs_core`
+//! and `ShowsLive` of `kfs_posix` are made of these; `kfs_damages` says of which objects there is no such tree.
 #![tactic(auto)]
 
 ghost use Rattle.kfs_shows.specs.Sweeping.{UnlinkingShows, ReleasingShows, MovingShows, MovingOverShows};
