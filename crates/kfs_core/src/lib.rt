@@ -1,4 +1,17 @@
 //! The tree over a running transaction.
+//!
+//! The layer of paths and inodes: it walks paths, makes, removes and renames nodes, reads, writes and resizes files by
+//! their numbers, counts the room, formats and mounts. It knows no descriptors. The tree isn't in memory: what the
+//! transaction sees is the tree. Which error a call answers is defined over the objects first (`walk_in` and what
+//! follows it in `specs/Flat.antt`), and shown to be the tree's.
+//!
+//! Invariant: the type of `Kfs` (`src/kfs.rt`) holds that charge and chunks are within the room. Two more hold between
+//! its calls: the objects stand for a tree, `Stands` (`specs/Stands.antt`), and the transaction has changed at most as
+//! many keys as its changes weigh, `IsLight` (`specs/Bounds.antt`). All three follow from the invariant of a session of
+//! `kfs_posix`.
+//!
+//! Begin with `src/kfs.rt` and `KfsState` in `specs/Core.antt`, then `src/walking.rt` and `src/making.rt`. `kfs_posix`
+//! cites it for every call; `kfs_runner` calls `format`.
 #![tactic(auto)]
 
 mod bounds;

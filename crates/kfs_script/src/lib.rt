@@ -1,4 +1,14 @@
 //! Scripts of file calls as text, and the text of answers.
+//!
+//! The parser of scripts and the printer of answers. `read_script` (`src/script.rt`) gives the lines that a text
+//! spells, or the number of the first line outside the grammar; `write_answer` (`src/writing.rt`) spells an answer.
+//!
+//! Invariant: `IsScript` (`specs/Script.antt`), in the type of `Script`. Each line is within its limits (`IsLine`), and
+//! a format stands first or not at all. Main laws: `read_script` reads what `script_of` says, each line is read from
+//! its spelling (`spelled_lines_are_read`), and a number has one spelling (`numbers_have_one_spelling`).
+//!
+//! Begin with `line_of` and `script_of` in `specs/Script.antt`, and `text_of` in `specs/AnswerText.antt`. `kfs_runner`
+//! reads scripts and writes answers with it.
 #![tactic(auto)]
 
 mod command;
