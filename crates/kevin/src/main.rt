@@ -1,4 +1,15 @@
 //! Runs scripts of file calls.
+//!
+//! The program. `run` takes the words behind the program's name, standard input, standard output and the file of the
+//! image, and calls `kevin`, which is `run_words` and `write_ending` of `kfs_runner` over a shelf, a source and a sink.
+//!
+//! There is no state. Main law: the clauses of `kevin`. `ends` says which status and which text each case gives and
+//! what stands on the shelf then (`Ends` in `specs/Ending.antt` of `kfs_runner`), `alone` that words which ask for no
+//! script leave shelf and source as they were, and `complete` that a script that formats first is answered whole where
+//! nothing outside failed, or is too long in its answers, or memory is wanting (`EndsComplete` in `specs/Complete.antt`
+//! there).
+//!
+//! Begin with `kevin`, then `src/running.rt` of `kfs_runner`. No crate stands on this one.
 #![tactic(auto)]
 
 ghost use Rattle.kfs_runner.specs.Complete.{EndsComplete};

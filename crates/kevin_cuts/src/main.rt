@@ -7,6 +7,9 @@
 //! and merges them first: an erase, a page and an anchor more. That is 28. In the third the mounts are four, so 20
 //! operations, and the merge is due when the work begins: three times `@work 1` does one of its operations, the
 //! fourth finds nothing, and four groups are written between. That is 27.
+//!
+//! There is no law: the tables are examples of what `kevin` promises of every plan of cuts. Begin with the file `stdin`
+//! beside `src`, which has the scripts, and with `src/tables.rt` of `kfs_rows`. No crate stands on this one.
 #![tactic(auto)]
 
 use kfs_rows::run_rows;

@@ -10,6 +10,9 @@
 //! of the ring and six of runs. The third programs eight groups, five pages of runs and five anchors, and erases four
 //! blocks of the ring and five of runs. How often a mount reads is where its table ends: no rule says
 //! that number. The answers at each point are held against the plain tree's.
+//!
+//! There is no law: the tables are examples of what `kevin` promises of every plan of faults. Begin with the file
+//! `stdin` beside `src`, which has the scripts, and with `src/tables.rt` of `kfs_rows`. No crate stands on this one.
 #![tactic(auto)]
 
 use kfs_rows::run_rows;

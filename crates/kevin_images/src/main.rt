@@ -9,6 +9,10 @@
 //!
 //! A file spells an image by lines `P=cut` and `P+N=HEX` for the pages that aren't erased; bytes that no
 //! line gives are zero.
+//!
+//! There is no law: the rows are examples of what a mount refuses and what it takes. Begin with `src/row.rt`, then
+//! `src/image.rt`. The rows stand in the file `stdin` beside `src`, what they are to come to in `stdout`. No crate
+//! stands on this one.
 #![tactic(auto)]
 
 mod image;

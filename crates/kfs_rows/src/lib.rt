@@ -23,6 +23,11 @@
 //! Of a row its name is written, and a line `= STATUS` with what the sink got; a bar marks the end of
 //! what breaks off within a line. Of a table a line is written for each kind: how many points were tried, and at how many
 //! of them all was right; and before it a line for each point at which it wasn't.
+//!
+//! There is no law: the rows are examples. The answers of a session are held against those of a plain tree of
+//! `kfs_plain` (`src/beside.rt`, `src/following.rt`); its next number is bounded by the calls done, the field `few` of
+//! `Beside`. Begin with `run_rows` in `src/rows.rt`, then `src/row.rt`, and `src/tables.rt` for tables. `kevin_rows`,
+//! `kevin_cuts` and `kevin_faults` are `run_rows` over their own input.
 #![tactic(auto)]
 
 mod beside;

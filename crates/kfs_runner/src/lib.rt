@@ -1,4 +1,16 @@
 //! Runs scripts of file calls and makes loads, from words and a stream of lines to a stream of answers.
+//!
+//! The layer of the application. `task_of` (`src/words.rt`) reads the words, the traits `Source`, `Sink` and `Shelf`
+//! (`src/outside.rt`) are its input, its output and the place of the image, `answer_all` (`src/lines.rt`) hands line
+//! after line to a `Host`, and `serve` (`src/serving.rt`) does so on a flash.
+//!
+//! Invariant: `known` of `Host` (`src/host.rt`), which for a mount point is `Known` (`specs/MountPoints.antt`). A
+//! session shows some state of a life, and of a device without a session the planned cuts and faults are those of one.
+//! Main laws: each line and its answer lead on as `PointGoes` says, `serve` gives what `IsServed` or `IsServedOn`
+//! (`specs/Serving.antt`) say, and a run ends as `Ends` (`specs/Ending.antt`).
+//!
+//! Begin with `run_words` in `src/running.rt`, then `src/mount_point.rt`. `kevin` calls `run_words` and `write_ending`
+//! over files and streams, `kfs_rows` and `kevin_images` over memory.
 #![tactic(auto)]
 
 mod complete;
