@@ -1,5 +1,16 @@
-//! What operations on the flash leave of the objects that an image holds. The functions do nothing:
-//! their contracts are the laws.
+//! What operations on the flash leave of the objects that an image holds. The functions do nothing: their contracts are
+//! the laws.
+//!
+//! Frame laws, one for each region: pages that nothing names may change as they like (`SparePagesCountForNothing` in
+//! `specs/Spare.antt`); a change of the log gives the objects before or after its last group (`LogsTellTheObjects` in
+//! `specs/Logging.antt`); a change of anchors keeps the objects where the next anchor shows the same (`AnchorsTakeOver`
+//! in `specs/Anchoring.antt`).
+//!
+//! There is no state and so no invariant. What such a change keeps is told by `KeepsObjects` and `Stays` in
+//! `specs/Same.antt`: the visible entries, the objects, and that a mount takes the image.
+//!
+//! Begin with `specs/Same.antt` and `src/spare.rt`. Above, `kssd_root` and `kssd_index` cite these laws for their
+//! writes, and `kssd_machine` for the device as a whole.
 #![tactic(auto)]
 
 mod anchoring;

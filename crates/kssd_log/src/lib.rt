@@ -1,8 +1,8 @@
 //! The log in its ring of blocks: groups of entries, added page by page and read back.
 //!
-//! A write-ahead log in the blocks 2 to 19. A group counts from the program of its last page on; behind the last page
-//! for groups of a block a turn page leads to the next block, which is erased before. `Ring` is where the log goes on,
-//! and `scan` reads a log back and judges each of its pages.
+//! A write-ahead log in the blocks 2 to 19. A group counts from the program of its last page on; a turn page leads on
+//! to the next block of the ring, which is erased before. `Ring` is where the log goes on, and `scan` reads a log back
+//! and judges each of its pages.
 //!
 //! What holds of each `Ring`: its page lies in the ring's blocks, and it may take at most 8 blocks (`IsInRing` in
 //! `specs/Ring.antt`). An append leaves each log that ended at the ring's place with one group more, and where it fails

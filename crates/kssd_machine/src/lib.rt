@@ -1,5 +1,16 @@
-//! What a flash and the changes of open transactions are as a device, and what each call of a device
-//! on flash does to it. The functions do nothing: their contracts are the laws.
+//! What a flash and the changes of open transactions are as a device, and what each call of a device on flash does to
+//! it. The functions do nothing: their contracts are the laws.
+//!
+//! The abstraction from the parts to the machine of `kv_device`: its stable objects are those that the image holds, its
+//! pending changes those of the open transactions (`machine_of` in `specs/Machines.antt`).
+//!
+//! There is no state. The invariant that these laws carry through each call is `AreMarked` in `specs/Marked.antt`:
+//! visible pages are those that visible entries name, pending ones those that open transactions name, and none is named
+//! twice.
+//!
+//! Begin with `specs/Machines.antt` and `src/machines.rt`; then `src/ending.rt` for the end of a transaction and
+//! `src/collecting.rt` for collections. Above, `kssd_mounted` states what holds of a device by these definitions, and
+//! each crate that implements a call cites the laws.
 #![tactic(auto)]
 
 mod calls;
