@@ -1,14 +1,11 @@
 -- The charge and the chunks that a mount counts are the tree's.
-use Rattle.std.proofs.Common.{◌≡◌, ◌≢◌, ℕ, suc, ◌<◌, ◌≤◌, ◌+◌, ◌-◌, ◌*◌, ◌^◌, ◌&&◌, inl, inr, true, false, cond, Bool, T, refl, sym, ◌∙◌, ap, arith, List, [], ◌∷◌, ◌++◌, length, map, min, filter, take, sum_by, Option, Some, None}
-use Rattle.std.specs.Option.{option_map}
-use Rattle.std.specs.Ordering.{nat_cmp, eq_by_cmp, is_eq, is_lt}
-use Rattle.std.specs.declared.cmp.Ordering.{Ordering}
-use Rattle.std.specs.declared.cmp.Ordering.TheVariants.{Less, Equal, Greater}
+use Rattle.std.proofs.Common.{◌≡◌, ◌≢◌, ℕ, suc, ◌<◌, ◌≤◌, ◌+◌, ◌-◌, ◌*◌, ◌^◌, true, false, cond, Bool, T, refl, sym, ◌∙◌, ap, arith, List, [], ◌∷◌, ◌++◌, length, map, min, filter, take, sum_by, Option, Some, None}
+use Rattle.std.specs.Ordering.{nat_cmp}
 use Rattle.std.specs.Cmp.{nat_cmp_total}
 use Rattle.std.specs.Cmp.Lexicographic.{nat_list_cmp_total}
 use Rattle.std.specs.FinMap as objects
 use Rattle.std.specs.FinMap.{find, is_sorted}
-use Rattle.std.specs.FinMap.Entries.{below_all, same_entries, is_sorted-where_key, find-where_key}
+use Rattle.std.specs.FinMap.Entries.{same_entries, is_sorted-where_key, find-where_key}
 use Rattle.std.proofs.lemmas.List.{take_all, length-map, length-take}
 use Rattle.std.proofs.lemmas.List.Sums.{sum_by-cons}
 use Rattle.kv_base.specs.declared.pairs.Pair.{Pair}
@@ -19,14 +16,16 @@ use Rattle.kfs_objects.specs.Records.{read_inode}
 use Rattle.kfs_model.specs.declared.Node.{Node}
 use Rattle.kfs_model.specs.declared.Node.TheVariants.{Dir, File}
 use Rattle.kfs_model.specs.Tree.{Tree, chunks_of, chunks, charge, greatest_length, node_of}
-use Rattle.kfs_model.proofs.Tests.{first_of, second_of, lt_apart}
+use Rattle.kfs_model.proofs.Tests.{first_of, second_of}
 use Rattle.kfs_shows.specs.Shows.{inode_of}
-use Rattle.kfs_shows.proofs.Lookups.{same_bytes, decide_number, tie_test, apart_test}
-use Rattle.kfs_shows.proofs.KeysApart.{kinds, same_inode}
+use Rattle.kfs_shows.proofs.Lookups.{same_bytes, tie_test, apart_test}
+use Rattle.kfs_shows.proofs.KeysApart.{kinds}
 use Rattle.kfs_shows.proofs.Sweeping.{missing}
+use Rattle.kfs_damages.specs.Damages.{keys_of}
+use Rattle.kfs_damages.specs.Damages as damages
 use Rattle.kfs_damages.proofs.Counts.{inodes, AllLow, inode_found, inode_find, sum_entries}
 use Rattle.kfs_core.specs.Stands.{Stands}
-use Rattle.kfs_core.specs.Counted.{weigh, weigh_chunks, charge_in, chunks_in}
+use Rattle.kfs_core.specs.Counted.{charge_in, chunks_in}
 use Rattle.kfs_core.proofs.Ways.{kind_of, read_inode_of}
 
 sum_map : {X Y : Type 0} (f : X → Y) (g : Y → ℕ) (xs : List X) → sum_by (λ x. g (f x)) xs ≡ sum_by g (map f xs)
@@ -50,28 +49,28 @@ abbrev AllShort : List (ℕ × Node) → Type 0
 AllShort [] = Unit {0}
 AllShort (e ∷ es) = ((bytes : List ℕ) → e.1 ≡ File bytes → length bytes ≤ greatest_length) × AllShort es
 
-weigh_node : (x : Node) → weigh (Some (kind_of x)) ≡ 2 + chunks_of x
-weigh_node Dir = refl
-weigh_node (File bytes) = refl
+keys_of_node : (x : Node) → keys_of (Some (kind_of x)) ≡ 2 + chunks_of x
+keys_of_node Dir = refl
+keys_of_node (File bytes) = refl
 
-sum_nodes : (es : List (ℕ × Node)) → AllShort es → sum_by (weighed weigh) (inodes es) ≡ 2 * length es + sum_by (λ e. chunks_of e.1) es
+sum_nodes : (es : List (ℕ × Node)) → AllShort es → sum_by (weighed keys_of) (inodes es) ≡ 2 * length es + sum_by (λ e. chunks_of e.1) es
 sum_nodes [] h = refl
 sum_nodes (x ∷ es) h =
-    let w : weighed weigh (inode_key x.0, inode_of x.1) ≡ 2 + chunks_of x.1 = ap weigh (read_inode_of x.1 h.0) ∙ weigh_node x.1 in
+    let w : weighed keys_of (inode_key x.0, inode_of x.1) ≡ 2 + chunks_of x.1 = ap keys_of (read_inode_of x.1 h.0) ∙ keys_of_node x.1 in
     let r = sum_nodes es h.1 in
-    sum_by-cons (weighed weigh) (inode_key x.0, inode_of x.1) (inodes es)
-    ∙ (let s : weighed weigh (inode_key x.0, inode_of x.1) + sum_by (weighed weigh) (inodes es) ≡ 2 * suc (length es) + (chunks_of x.1 + sum_by (λ e. chunks_of e.1) es) = omega arith in s)
+    sum_by-cons (weighed keys_of) (inode_key x.0, inode_of x.1) (inodes es)
+    ∙ (let s : weighed keys_of (inode_key x.0, inode_of x.1) + sum_by (weighed keys_of) (inodes es) ≡ 2 * suc (length es) + (chunks_of x.1 + sum_by (λ e. chunks_of e.1) es) = omega arith in s)
     ∙ ap (λ n. 2 * suc (length es) + n) (sym (sum_by-cons (λ (e : ℕ × Node). chunks_of e.1) x es))
 
-weigh_node_chunks : (x : Node) → weigh_chunks (Some (kind_of x)) ≡ chunks_of x
-weigh_node_chunks Dir = refl
-weigh_node_chunks (File bytes) = refl
+chunks_of_node : (x : Node) → damages.chunks_of (Some (kind_of x)) ≡ chunks_of x
+chunks_of_node Dir = refl
+chunks_of_node (File bytes) = refl
 
-sum_chunks : (es : List (ℕ × Node)) → AllShort es → sum_by (weighed weigh_chunks) (inodes es) ≡ sum_by (λ e. chunks_of e.1) es
+sum_chunks : (es : List (ℕ × Node)) → AllShort es → sum_by (weighed damages.chunks_of) (inodes es) ≡ sum_by (λ e. chunks_of e.1) es
 sum_chunks [] h = refl
 sum_chunks (x ∷ es) h =
-    let w : weighed weigh_chunks (inode_key x.0, inode_of x.1) ≡ chunks_of x.1 = ap weigh_chunks (read_inode_of x.1 h.0) ∙ weigh_node_chunks x.1 in
-    sum_by-cons (weighed weigh_chunks) (inode_key x.0, inode_of x.1) (inodes es)
+    let w : weighed damages.chunks_of (inode_key x.0, inode_of x.1) ≡ chunks_of x.1 = ap damages.chunks_of (read_inode_of x.1 h.0) ∙ chunks_of_node x.1 in
+    sum_by-cons (weighed damages.chunks_of) (inode_key x.0, inode_of x.1) (inodes es)
     ∙ (λ i. w i + sum_chunks es h.1 i)
     ∙ sym (sum_by-cons (λ (e : ℕ × Node). chunks_of e.1) x es)
 
@@ -158,8 +157,8 @@ module _ (m : Objects) (t : Tree) (stands : Stands m t) where
 
   pub charge_same : objects.len m < 2 ^ 32 → charge_in m ≡ charge t
   unfolding charge_in
-  charge_same few = ap (λ n. 1 + n) (sum_same weigh few ∙ sum_nodes t.nodes facts.1) ∙ shift (length t.nodes) (chunks t)
+  charge_same few = ap (λ n. 1 + n) (sum_same keys_of few ∙ sum_nodes t.nodes facts.1) ∙ shift (length t.nodes) (chunks t)
 
   pub chunks_same : objects.len m < 2 ^ 32 → chunks_in m ≡ chunks t
   unfolding chunks_in
-  chunks_same few = sum_same weigh_chunks few ∙ sum_chunks t.nodes facts.1
+  chunks_same few = sum_same damages.chunks_of few ∙ sum_chunks t.nodes facts.1

@@ -3,7 +3,7 @@ use Rattle.std.proofs.Common.{◌≡◌, ◌≢◌, ℕ, ◌<◌, ◌≤◌, ◌
 use Rattle.std.proofs.lemmas.Bool.{and_parts}
 use Rattle.std.specs.List.{filter_map, cons_option}
 use Rattle.std.specs.Option.{option_map, option_and_then}
-use Rattle.std.specs.Ordering.{nat_cmp, eq_by_cmp, is_eq, is_lt, is_gt, ordering_then}
+use Rattle.std.specs.Ordering.{nat_cmp, eq_by_cmp, is_eq, is_gt, ordering_then}
 use Rattle.std.specs.declared.cmp.Ordering.{Ordering}
 use Rattle.std.specs.declared.cmp.Ordering.TheVariants.{Less, Equal, Greater}
 use Rattle.std.specs.Cmp.{IsTotalOrder, tied_itself, nat_cmp_total}
@@ -13,7 +13,7 @@ use Rattle.std.specs.FinMap.{find, is_sorted}
 use Rattle.std.specs.FinMap.Entries.{below_all, same_entries, is_sorted-where_key, find-where_key}
 use Rattle.std.specs.Str.{bytes_eq}
 use Rattle.std.proofs.lemmas.Map.Text.{is_eq-slice_cmp}
-use Rattle.std.proofs.lemmas.List.{take_all}
+use Rattle.std.proofs.lemmas.List.{take_all, length-map}
 use Rattle.std.proofs.lemmas.Option.{same_Some}
 use Rattle.kv_device.specs.Bytes.{bytes_cmp}
 use Rattle.kv_device.specs.Objects.{Objects, pairs_from, is_wanted}
@@ -32,6 +32,7 @@ use Rattle.kfs_model.specs.Ladder.{◌>>◌, ◌when◌}
 use Rattle.kfs_model.specs.Tree.{entry_at}
 use Rattle.kfs_model.specs.Step.{list_of, is_there, is_file, has_file}
 use Rattle.kfs_model.proofs.Tests.{lower, is_lower, both, first_of, second_of}
+use Rattle.kfs_dir.specs.Directory.{names_under}
 use Rattle.kfs_core.specs.Stands.{Stands}
 use Rattle.kfs_core.specs.Flat.{found_in, listed_in, list_in}
 use Rattle.kfs_core.proofs.Ways.{bytes_eq_refl}
@@ -216,7 +217,7 @@ module _ (m : Objects) (t : Tree) (tree : IsTree t) (shows : ShowsTree m t) (pla
   few_pairs = let h = few_filter (λ e. is_wanted (prefix n) (prefix n) e.0) (objects.entries m) in let l = objects.len-entries m in omega arith
 
   pub names_same : objects.len m < 2 ^ 32 → names_of m n ≡ names_in t place
-  names_same few = ap (map (λ e. drop 9 e.0)) (take_all (2 ^ 32 - 1) (pairs_from m (prefix n) (prefix n)) (let h = few_pairs in omega arith) ∙ pairs_same) ∙ kids_names n place t.names
+  names_same few = take_all (2 ^ 32 - 1) (names_under m n) (let h = few_pairs in let l = length-map (pairs_from m (prefix n) (prefix n)) (λ (e : List ℕ × List ℕ). drop 9 e.0) in omega arith) ∙ ap (map (λ e. drop 9 e.0)) pairs_same ∙ kids_names n place t.names
 
 module _ (m : Objects) (t : Tree) (stands : Stands m t) (few : objects.len m < 2 ^ 32) where
   numbered : (place : Place) (o : Option ℕ) (e : ℕ × Node) → option_and_then (λ n. option_map (λ node. (n, node)) (node_of t n)) o ≡ Some e → o ≡ Some e.0

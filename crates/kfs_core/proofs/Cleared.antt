@@ -24,7 +24,7 @@ use Rattle.kfs_shows.proofs.Sweeping.{nameless_test}
 use Rattle.kfs_tx.specs.Tx.{Tx, HasCause, Fallen, CommitFault, seen, started, committed, deleted_in}
 use Rattle.kfs_tx.proofs.Falling.{commit_falls, delete_falls}
 use Rattle.kfs_file.proofs.Failing.{fallen_before}
-use Rattle.kfs_file.specs.Contents.{Fails}
+use Rattle.kfs_file.specs.Contents.{FailsWithin}
 use Rattle.kfs_core.specs.Clearing.{Keeps, Cleared, Clears, ClearFails, IsFresh, NoOrphans, with_stable}
 use Rattle.kfs_core.specs.Flat.{inode_in}
 use Rattle.kfs_core.specs.Removing.{Goes, chunks_for}
@@ -152,7 +152,7 @@ module _ (old new : Tx) (key : List ℕ) (node kind size : ℕ) (fresh : IsFresh
 pub fell : (old : Tx) (fault : DeviceFault) (new : Machine) → Fallen old.machine fault old.machine.stable new → ClearFails old fault new
 fell old fault new f = record { cause = f.cause; keeps = keeps_to _ _ _ f.stable (keeps_same old.machine.stable); bounds = f.bounds }
 
-pub fails_clear : (old : Tx) (keys : ℕ) (fault : DeviceFault) (new : Machine) → IsFresh old → keys ≤ 640 → Fails old keys fault new → ClearFails old fault new
+pub fails_clear : (old : Tx) (keys : ℕ) (fault : DeviceFault) (new : Machine) → IsFresh old → keys ≤ 640 → FailsWithin old keys fault new → ClearFails old fault new
 fails_clear old keys fault new fresh few h = fell old fault new (h.fallen (fresh_ready old fresh) (let z = fresh_keys old fresh in omega arith))
 
 -- the deletion of the orphan object failed

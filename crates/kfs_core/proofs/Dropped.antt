@@ -19,13 +19,13 @@ use Rattle.kfs_shows.proofs.KeysApart.{kinds, same_chunk}
 use Rattle.kfs_tx.specs.Tx.{Tx, IsReady, seen, deleted_in}
 use Rattle.kfs_tx.proofs.Seeing.{ready_deleted, seen_deleted, keys_deleted}
 use Rattle.kfs_tx.proofs.Falling.{delete_falls, only_memory_falls}
-use Rattle.kfs_file.specs.Contents.{Fails, RemoveFault, ChangesAtMost, pending_of}
+use Rattle.kfs_file.specs.Contents.{FailsWithin, RemoveFault, ChangesAtMost, pending_of}
 use Rattle.kfs_core.specs.Flat.{inode_in}
 use Rattle.kfs_core.specs.Removing.{Goes, chunks_for}
 use Rattle.kfs_core.proofs.Ways.{kind_of, read_inode_of}
 
 -- a deletion that failed
-pub deletion_fails : (r : Tx) (key : List ℕ) (fault : DeviceFault) (new : Machine) → RemoveFault r key fault new → Fails r 1 fault new
+pub deletion_fails : (r : Tx) (key : List ℕ) (fault : DeviceFault) (new : Machine) → RemoveFault r key fault new → FailsWithin r 1 fault new
 deletion_fails r key fault new h = record {
   cause = h.1;
   fallen = λ ready room. elim (h.0) [

@@ -1,5 +1,5 @@
 -- A tree's names in their order: a place, and then what lies below it, child by child.
-use Rattle.std.proofs.Common.{◌≡◌, ◌≢◌, ℕ, ◌&&◌, ◌||◌, inl, inr, true, false, cond, Bool, T, refl, sym, ◌∙◌, ap, subst, List, [], ◌∷◌, ◌++◌, filter, Option, Some, None, append_assoc, append-nil}
+use Rattle.std.proofs.Common.{◌≡◌, ◌≢◌, ℕ, ◌||◌, inl, inr, true, false, cond, Bool, T, refl, sym, ◌∙◌, ap, subst, List, [], ◌∷◌, ◌++◌, filter, Option, Some, None, append_assoc, append-nil}
 use Rattle.std.specs.Prelude.{is_some}
 use Rattle.std.specs.List.{list_any}
 use Rattle.std.specs.Ordering.{eq_by_cmp, is_lt, ordering_then}

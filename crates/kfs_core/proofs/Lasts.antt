@@ -1,5 +1,5 @@
 -- A walk whose last piece is a name ends under that name in a directory.
-use Rattle.std.proofs.Common.{◌≡◌, ◌≢◌, ◌<◌, ◌≤◌, ◌+◌, ◌-◌, ◌||◌, true, false, cond, Bool, refl, sym, ◌∙◌, ap, subst, arith, List, [], ◌∷◌, ◌++◌, length, take, get_or, Some, Ok}
+use Rattle.std.proofs.Common.{◌≡◌, ◌≢◌, ◌<◌, ◌≤◌, ◌+◌, ◌-◌, true, false, cond, refl, sym, ◌∙◌, ap, subst, arith, List, [], ◌∷◌, ◌++◌, length, take, get_or, Some, Ok}
 use Rattle.std.specs.List.{AllByRecursion}
 use Rattle.std.specs.Str.{bytes_eq}
 use Rattle.std.proofs.lemmas.List.{length_push, take-append-le, take_all}
@@ -7,10 +7,11 @@ use Rattle.kv_device.specs.Objects.{Objects}
 use Rattle.kfs_model.specs.declared.Node.TheVariants.{Dir}
 use Rattle.kfs_model.specs.Ladder.{bind_ok}
 use Rattle.kfs_model.specs.Tree.{Place, Name, Tree, parent, further, entered, entry_at, walk, walk_from, is_dot, is_dot_dot, IsName, number_at, node_of}
-use Rattle.kfs_model.specs.Step.{is_root, ends_by, ends_in_dots}
-use Rattle.kfs_core.specs.Flat.{Where, at_root, enter_in, find_in, up_from, further_in, walk_in}
+use Rattle.kfs_model.specs.Step.{is_root, ends_in_dots}
+use Rattle.kfs_dir.specs.Directory.{node_under}
+use Rattle.kfs_core.specs.Flat.{Where, at_root, enter_in, up_from, further_in, walk_in}
 use Rattle.kfs_core.specs.Making.{parent_of}
-use Rattle.kfs_core.proofs.Pieces.{IsPart, ok_is}
+use Rattle.kfs_core.proofs.Pieces.{IsPart, ok_is, or_false}
 use Rattle.kfs_core.proofs.Ways.{IsSpot, bytes_eq_refl}
 
 -- the directory above, and the name in it
@@ -25,16 +26,6 @@ abbrev pub last_of : List Name → Name
 last_of [] = []
 last_of (piece ∷ []) = piece
 last_of (piece ∷ next ∷ pieces) = last_of (next ∷ pieces)
-
-pub or_false : (a b : Bool) → (a || b) ≡ false → (a ≡ false) × (b ≡ false)
-or_false true b e = absurd (cc)
-or_false false b e = (refl, e)
-
--- neither ends in the one dot nor in two
-pub neither_dots : (pieces : List Name) → ends_by is_dot pieces ≡ false → ends_by is_dot_dot pieces ≡ false → ends_in_dots pieces ≡ false
-neither_dots [] a b = refl
-neither_dots (piece ∷ []) a b = λ i. a i || b i
-neither_dots (piece ∷ next ∷ pieces) a b = neither_dots (next ∷ pieces) a b
 
 not_bytes : (xs ys : Name) → bytes_eq xs ys ≡ false → xs ≢ ys
 not_bytes xs ys e f = let bad : true ≡ false = sym (ap (bytes_eq xs) (sym f) ∙ bytes_eq_refl xs) ∙ e in cc
@@ -63,7 +54,7 @@ module _ (m : Objects) where
   name_last w (piece ∷ []) v dots root e =
       let into = bind_ok (enter_in m w.node) (λ n. walk_in m (further_in m w n piece) []) v e in
       let d = or_false (is_dot piece) (is_dot_dot piece) dots in
-      let below : Where = record { above = w.above ++ into.0 ∷ []; node = find_in m into.0 piece; name = piece } in
+      let below : Where = record { above = w.above ++ into.0 ∷ []; node = node_under m into.0 piece; name = piece } in
       ap (λ (x : Where). x.name) (sym (ok_is (further_in m w into.0 piece) v into.2) ∙ (λ i. cond (d.0 i) w (cond (d.1 i) (up_from w) below)))
   name_last w (piece ∷ next ∷ pieces) v dots root e =
       let into = bind_ok (enter_in m w.node) (λ n. walk_in m (further_in m w n piece) (next ∷ pieces)) v e in

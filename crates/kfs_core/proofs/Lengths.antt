@@ -4,7 +4,7 @@ use Rattle.std.proofs.lemmas.Bool.Decides.{nat_tests}
 use Rattle.kv_device.specs.declared.fault.DeviceFault.{DeviceFault}
 use Rattle.kv_device.specs.Machine.{Machine}
 use Rattle.kfs_tx.specs.Tx.{Tx, seen}
-use Rattle.kfs_file.specs.Contents.{ResizesFile, ChangesAtMost, Fails, touched}
+use Rattle.kfs_file.specs.Contents.{ResizesFile, ChangesAtMost, FailsWithin, touched}
 use Rattle.kfs_file.proofs.Resizing.{resizes_longer}
 use Rattle.kfs_core.specs.declared.fault.CoreFault.TheVariants.{Device}
 use Rattle.kfs_core.specs.declared.room.Space.{Space}
@@ -24,8 +24,8 @@ puts_cut old new node size length lt h keys = record { resizes = h; keys = subst
 pub puts_none : (r : Tx) (node size length : ℕ) → size ≤ length → PutsLength r node size length r
 puts_none r node size length le = record { resizes = resizes_longer r node size length le; keys = λ ready. omega arith }
 
-pub cut_fails : (old : Tx) (size length : ℕ) (fault : DeviceFault) (new : Machine) → length < size → Fails old (touched length (size - length)) fault new → Fails old (keys_cut size length) fault new
-cut_fails old size length fault new lt h = subst (λ n. Fails old n fault new) (cut_is size length lt) h
+pub cut_fails : (old : Tx) (size length : ℕ) (fault : DeviceFault) (new : Machine) → length < size → FailsWithin old (touched length (size - length)) fault new → FailsWithin old (keys_cut size length) fault new
+cut_fails old size length fault new lt h = subst (λ n. FailsWithin old n fault new) (cut_is size length lt) h
 
 -- ---- as the call tells it
 

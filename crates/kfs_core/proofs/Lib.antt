@@ -1,5 +1,4 @@
 pub mod Pieces
-pub mod Listing
 pub mod Ways
 pub mod Judges
 pub mod Children

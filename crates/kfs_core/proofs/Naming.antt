@@ -13,7 +13,7 @@ use Rattle.kfs_path.specs.declared.call.Errno.{Errno}
 use Rattle.kfs_tx.specs.Tx.{Tx, seen, put_in, deleted_in, PutFault}
 use Rattle.kfs_tx.proofs.Seeing.{ready_put, keys_put}
 use Rattle.kfs_tx.proofs.Falling.{put_falls}
-use Rattle.kfs_file.specs.Contents.{Fails}
+use Rattle.kfs_file.specs.Contents.{FailsWithin}
 use Rattle.kfs_file.proofs.Failing.{fails_after}
 use Rattle.kfs_core.specs.Removing.{Leaf, Loses, Unnames, UnlinkFault, UnlinkFails, ReleaseFault, ReleaseFails, release_at, chunks_lost, chunks_gone}
 use Rattle.kfs_core.specs.declared.fault.CoreFault.TheVariants.{Device}
@@ -25,7 +25,7 @@ small_value : (key value : List ℕ) → length value ≤ 128 → (nat_lt 128 (l
 small_value key value le = let f : nat_lt 128 (length value) ≡ false = grind (arith, nat_tests) in ap (λ b. b && nat_lt 32 (length key)) f
 
 -- a small value that wasn't put
-pub put_fails : (r : Tx) (key value : List ℕ) (fault : DeviceFault) (new : Machine) → length value ≤ 128 → PutFault r key value fault new → Fails r 1 fault new
+pub put_fails : (r : Tx) (key value : List ℕ) (fault : DeviceFault) (new : Machine) → length value ≤ 128 → PutFault r key value fault new → FailsWithin r 1 fault new
 put_fails r key value fault new small h = record {
   cause = h.1;
   fallen = λ ready room. put_falls r key value fault new ready (omega arith) (small_value key value small) h;
@@ -49,7 +49,7 @@ follows_put old mid key value most h = record {
 }
 
 -- a failure in what follows
-pub fails_following : (old mid : Tx) (j k all : ℕ) (fault : DeviceFault) (new : Machine) → Follows old mid j → j + k ≤ all → Fails mid k fault new → Fails old all fault new
+pub fails_following : (old mid : Tx) (j k all : ℕ) (fault : DeviceFault) (new : Machine) → Follows old mid j → j + k ≤ all → FailsWithin mid k fault new → FailsWithin old all fault new
 fails_following old mid j k all fault new h le f = fails_after old mid j k all fault new h.same h.ready h.few le f
 
 pub loses_follows : (old new : Tx) (node size : ℕ) (open_now : Bool) → Loses old node size open_now new → Follows old new (1 + chunks_lost size open_now)

@@ -1,5 +1,5 @@
 -- What the judges of removal answer over the objects is what the tree's definitions say.
-use Rattle.std.proofs.Common.{◌≡◌, ℕ, suc, ◌<◌, ◌||◌, not, true, false, refl, sym, ◌∙◌, ap, subst, arith, List, [], ◌∷◌, ◌++◌, length, map, take, Option, Some, None, is_some, Result, Ok, nat_lt}
+use Rattle.std.proofs.Common.{◌≡◌, ℕ, ◌<◌, ◌||◌, ◌==◌, not, true, false, refl, sym, ◌∙◌, ap, subst, arith, List, [], ◌∷◌, ◌++◌, length, map, drop, Option, Some, None, is_some, Result, Ok, nat_lt}
 use Rattle.std.specs.List.{AllByRecursion}
 use Rattle.std.specs.Option.{option_map, option_and_then}
 use Rattle.std.proofs.lemmas.Bool.Decides.{nat_tests}
@@ -15,15 +15,17 @@ use Rattle.kfs_model.specs.Tree.{Place, Name, Tree, names_in, entry_at, walk, wi
 use Rattle.kfs_model.specs.Desk.{Desk}
 use Rattle.kfs_model.specs.Step.{After, Route, syntax, swept, leaves_swept, unlink, rmdir_at, is_there, is_dir, is_file, has_dir, has_file, isnt_empty, is_root, ends_by, ends_in_dots}
 use Rattle.kfs_laws.proofs.Moves.{listed}
+use Rattle.kfs_laws.proofs.Walking.{neither_dots}
+use Rattle.kfs_dir.specs.Directory.{names_under}
 use Rattle.kfs_core.specs.Stands.{Stands}
 use Rattle.kfs_core.specs.Flat.{Where, at_root, walk_in}
 use Rattle.kfs_core.specs.Removing.{Leaf, leaf_at, has_names, file_to_go, dir_to_go, unlink_in, rmdir_in}
-use Rattle.kfs_core.proofs.Pieces.{IsPart}
+use Rattle.kfs_core.proofs.Pieces.{IsPart, or_false}
 use Rattle.kfs_core.proofs.Ways.{kind_of, walks, root_spot}
 use Rattle.kfs_core.proofs.Judges.{syntax_named, found_at, seen_as}
-use Rattle.kfs_core.proofs.Children.{child_of, kids, kids_names, pairs_same}
+use Rattle.kfs_core.proofs.Children.{child_of, kids_names, pairs_same}
 use Rattle.kfs_core.proofs.Ladders.{SameAs, same_when, same_right, same_walk}
-use Rattle.kfs_core.proofs.Lasts.{IsLast, walk_last, neither_dots, or_false}
+use Rattle.kfs_core.proofs.Lasts.{IsLast, walk_last}
 
 -- an entry of the tree that nothing lies below, and the node that it names
 pub record IsLeaf (t : Tree) (place : Place) (leaf : Leaf) : Type 0 where
@@ -50,19 +52,14 @@ entry_parts t place e is = by (number_at t place) refl is
     by None f is = absurd (cc)
     by (Some n) f is = let h = in_node n (node_of t n) refl is in (ap Some h.0, ap (node_of t) (sym h.0) ∙ h.1)
 
-some_of : {A B : Type 0} (f : A → B) (xs : List A) → nat_lt 0 (length (take 1 xs)) ≡ nat_lt 0 (length (map f xs))
-some_of f [] = refl
-some_of f (x ∷ xs) =
-    let a : nat_lt 0 (suc (length (take 0 xs))) ≡ true = grind (arith, nat_tests) in
-    let b : nat_lt 0 (suc (length (map f xs))) ≡ true = grind (arith, nat_tests) in
-    a ∙ sym b
+some_of : (k : ℕ) → not (k == 0) ≡ nat_lt 0 k
+some_of k = grind (arith, nat_tests)
 
 module _ (m : Objects) (t : Tree) (stands : Stands m t) where
   pub has_names_same : (place : Place) (n : ℕ) → number_at t place ≡ Some n → has_names m n ≡ isnt_empty t place
   has_names_same place n at =
-      ap (λ es. nat_lt 0 (length (take 1 es))) (pairs_same m t stands.tree stands.shows place n at)
-      ∙ some_of _ (kids n place t.names)
-      ∙ ap (λ (names : List Name). nat_lt 0 (length names)) (kids_names n place t.names)
+      some_of (length (names_under m n))
+      ∙ ap (λ (names : List Name). nat_lt 0 (length names)) (ap (map (λ e. drop 9 e.0)) (pairs_same m t stands.tree stands.shows place n at) ∙ kids_names n place t.names)
 
   -- nothing lies below an empty directory, nor below a file
   pub nothing_below : (place : Place) → isnt_empty t place ≡ false → (x : Name) → number_at t (place ++ x ∷ []) ≡ None

@@ -30,12 +30,12 @@ use Rattle.kfs_core.specs.Flat.{Where, at_root, walk_in}
 use Rattle.kfs_core.specs.Making.{parent_of}
 use Rattle.kfs_core.specs.Removing.{Leaf}
 use Rattle.kfs_core.specs.Renaming.{Move, is_dir_found, is_file_found, isnt_empty_found, is_long_found, is_same_spot, replaced_at, move_at, clear_in, onto_in, from_in, rename_in}
-use Rattle.kfs_core.proofs.Pieces.{IsPart, ok_is}
+use Rattle.kfs_core.proofs.Pieces.{IsPart, ok_is, or_false}
 use Rattle.kfs_core.proofs.Ways.{IsSpot, kind_of, walks, root_spot}
 use Rattle.kfs_core.proofs.Judges.{syntax_named, found_at, seen_as}
 use Rattle.kfs_core.proofs.Children.{child_is}
 use Rattle.kfs_core.proofs.Ladders.{SameAs, same_when, same_right, same_if, same_walk}
-use Rattle.kfs_core.proofs.Lasts.{IsLast, walk_last, or_false}
+use Rattle.kfs_core.proofs.Lasts.{IsLast, walk_last}
 use Rattle.kfs_core.proofs.RemovingJudges.{IsLeaf, entry_parts, has_names_same, nothing_below, below_file, is_leaf, short_file}
 
 -- what the new place names: nothing, or a node that nothing lies below

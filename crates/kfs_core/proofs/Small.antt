@@ -32,7 +32,7 @@ use Rattle.kfs_core.proofs.FileEffects.{put_numbers, length_ready, length_keys, 
 use Rattle.kfs_core.proofs.Fresh.{fresh_ready, fresh_keys}
 use Rattle.kfs_core.proofs.Moving.{replaces_follows}
 use Rattle.kfs_core.proofs.Naming.{follows_none, follows_put, unnames_follows}
-use Rattle.kfs_core.proofs.Pieces.{ok_is}
+use Rattle.kfs_core.proofs.Pieces.{ok_is, or_false}
 
 -- ---- one change
 
@@ -49,10 +49,6 @@ counts_small old mid n next k light ready weight few within most = record {
     ready_then : IsReady (counted mid n next)
     ready_then = let h = ready_put mid super_key (super_value (mid.changes + 1) next) ready in record { up = h.up; alone = h.alone }
 
-    or_false : (a b : Bool) → (a || b) ≡ false → b ≡ false
-    or_false true b e = absurd (cc)
-    or_false false b e = e
-
     by : (f : Bool) → is_full (mid.since + 1) (mid.weight + n) ≡ f → IsLight (cond f (committed (counted mid n next)) (counted mid n next))
     by true e = record {
       ready = ready_committed (counted mid n next) ready_then;
@@ -61,7 +57,7 @@ counts_small old mid n next k light ready weight few within most = record {
     }
     by false e = record {
       ready = ready_then;
-      light = let h : nat_le 256 (mid.weight + n) ≡ false = or_false (nat_le 64 (mid.since + 1)) (nat_le 256 (mid.weight + n)) e in grind (arith, nat_tests);
+      light = let h : nat_le 256 (mid.weight + n) ≡ false = (or_false (nat_le 64 (mid.since + 1)) (nat_le 256 (mid.weight + n)) e).1 in grind (arith, nat_tests);
       few = let a = one_more in let b = light.few in omega arith;
     }
 

@@ -1,5 +1,5 @@
 -- The walk over the objects is the walk over the tree that they show.
-use Rattle.std.proofs.Common.{◌≡◌, ◌≢◌, ℕ, ◌<◌, ◌≤◌, ◌+◌, ◌-◌, ◌^◌, ◌==◌, ◌⊎◌, inl, inr, true, false, cond, Bool, refl, sym, ◌∙◌, ap, subst, arith, List, [], ◌∷◌, ◌++◌, length, take, get_or, Option, Some, None, Result, Ok, Err}
+use Rattle.std.proofs.Common.{◌≡◌, ◌≢◌, ℕ, ◌<◌, ◌+◌, ◌-◌, ◌^◌, ◌==◌, ◌⊎◌, inl, inr, true, false, cond, Bool, refl, sym, ◌∙◌, ap, subst, arith, List, [], ◌∷◌, ◌++◌, length, take, get_or, Option, Some, None, Result, Ok, Err}
 use Rattle.std.specs.List.{AllByRecursion}
 use Rattle.std.specs.Option.{option_map, option_and_then}
 use Rattle.std.proofs.lemmas.Bool.Decides.{nat_tests}
@@ -7,12 +7,12 @@ use Rattle.std.proofs.lemmas.List.{length_push, take-take, take-append-le, take_
 use Rattle.kv_device.specs.Objects.{Objects}
 use Rattle.kfs_objects.specs.Keys.{IsNamed}
 use Rattle.kfs_objects.specs.Records.{read_inode, read_entry, entry_value}
-use Rattle.kfs_objects.proofs.RecordLaws.{read_entry_value, read_inode_dir, read_inode_file}
+use Rattle.kfs_objects.proofs.RecordLaws.{read_entry_value}
 use Rattle.kfs_path.specs.declared.call.Errno.{Errno}
 use Rattle.kfs_model.specs.declared.Node.{Node}
 use Rattle.kfs_model.specs.declared.Node.TheVariants.{Dir, File}
 use Rattle.kfs_model.specs.Ladder.{◌>>=◌}
-use Rattle.kfs_model.specs.Tree.{Place, Name, Tree, parent, further, entered, entry_at, walk_from, is_dot, is_dot_dot, greatest_length, IsName, number_at, node_of}
+use Rattle.kfs_model.specs.Tree.{Place, Name, Tree, parent, further, entered, entry_at, walk_from, is_dot, is_dot_dot, IsName, number_at, node_of}
 use Rattle.std.specs.Str.{bytes_eq}
 use Rattle.std.specs.Ordering.{is_eq}
 use Rattle.std.specs.Cmp.{tied_itself}
@@ -22,7 +22,8 @@ pub use Rattle.kfs_damages.proofs.Counts.{kind_of, read_inode_of}
 use Rattle.kfs_core.proofs.Pieces.{IsPart}
 use Rattle.kfs_shows.specs.Shows.{inode_of}
 use Rattle.kfs_core.specs.Stands.{Stands}
-use Rattle.kfs_core.specs.Flat.{Where, at_root, inode_in, find_in, enter_at, enter_in, up_from, further_in, walk_in}
+use Rattle.kfs_dir.specs.Directory.{node_under}
+use Rattle.kfs_core.specs.Flat.{Where, at_root, inode_in, enter_at, enter_in, up_from, further_in, walk_in}
 
 -- where a walk stands, in the tree and over the objects
 pub record IsSpot (t : Tree) (place : Place) (w : Where) : Type 0 where
@@ -44,7 +45,7 @@ module _ (m : Objects) (t : Tree) (stands : Stands m t) where
       let lt : n < 2 ^ 64 = let h = (stands.tree.numbers n x e).1 in let l = stands.low in omega arith in
       ap (option_and_then read_inode) (stands.shows.inodes n lt ∙ ap (option_map inode_of) e) ∙ read_inode_of x (λ bytes f. stands.tree.lengths n bytes (e ∙ ap Some f))
 
-  pub find_at : (place : Place) (n : ℕ) (name : Name) → number_at t place ≡ Some n → IsNamed name → find_in m n name ≡ number_at t (place ++ name ∷ [])
+  pub find_at : (place : Place) (n : ℕ) (name : Name) → number_at t place ≡ Some n → IsNamed name → node_under m n name ≡ number_at t (place ++ name ∷ [])
   find_at place n name e short = ap (option_and_then read_entry) (stands.shows.entries place n name e short) ∙ by (number_at t (place ++ name ∷ [])) refl
     where
       by : (o : Option ℕ) → number_at t (place ++ name ∷ []) ≡ o → option_and_then read_entry (option_map entry_value o) ≡ o
@@ -106,7 +107,7 @@ module _ (m : Objects) (t : Tree) (stands : Stands m t) where
             name = λ f. absurd (let bad : Some (get_or w.above (length w.above - 1) 0) ≡ None = f in cc);
           }
 
-  down_spot : (place : Place) (w : Where) (n : ℕ) (piece : Name) → IsPart piece → IsName piece → IsSpot t place w → number_at t place ≡ Some n → node_of t n ≡ Some Dir → IsSpot t (place ++ piece ∷ []) (record { above = w.above ++ n ∷ []; node = find_in m n piece; name = piece })
+  down_spot : (place : Place) (w : Where) (n : ℕ) (piece : Name) → IsPart piece → IsName piece → IsSpot t place w → number_at t place ≡ Some n → node_of t n ≡ Some Dir → IsSpot t (place ++ piece ∷ []) (record { above = w.above ++ n ∷ []; node = node_under m n piece; name = piece })
   down_spot place w n piece part named spot e dir =
       let lp = length_push place piece in
       let la = length_push w.above n in
@@ -134,7 +135,7 @@ module _ (m : Objects) (t : Tree) (stands : Stands m t) where
   further_spot : (place : Place) (w : Where) (n : ℕ) (piece : Name) → IsPart piece → IsSpot t place w → number_at t place ≡ Some n → node_of t n ≡ Some Dir → IsSpot t (further place piece) (further_in m w n piece)
   further_spot place w n piece part spot e dir = by (is_dot piece) (is_dot_dot piece) refl refl
     where
-      by : (a b : Bool) → is_dot piece ≡ a → is_dot_dot piece ≡ b → IsSpot t (cond a place (cond b (parent place) (place ++ piece ∷ []))) (cond a w (cond b (up_from w) (record { above = w.above ++ n ∷ []; node = find_in m n piece; name = piece })))
+      by : (a b : Bool) → is_dot piece ≡ a → is_dot_dot piece ≡ b → IsSpot t (cond a place (cond b (parent place) (place ++ piece ∷ []))) (cond a w (cond b (up_from w) (record { above = w.above ++ n ∷ []; node = node_under m n piece; name = piece })))
       by true b f g = spot
       by false true f g = up_spot place w n spot e
       by false false f g = down_spot place w n piece part (record { short = part.0; slashes = part.1; dot = not_bytes piece (46 ∷ []) f; dots = not_bytes piece (46 ∷ 46 ∷ []) g }) spot e dir

@@ -1,4 +1,4 @@
--- What is left where the nameless nodes went has the room that was judged.
+-- What is left where the nameless nodes went has the room that was weight.
 use Rattle.std.proofs.Common.{◌≡◌, ℕ, ◌<◌, ◌≤◌, ◌+◌, ◌-◌, ◌^◌, true, false, Bool, cond, refl, sym, ◌∙◌, ap, subst, arith, List, [], ◌∷◌, length, filter, take, sum_by, Option, Some, None, is_some}
 use Rattle.std.specs.Cmp.Lexicographic.{nat_list_cmp_total}
 use Rattle.std.specs.FinMap as objects
@@ -15,7 +15,7 @@ use Rattle.kfs_judge.specs.Judging.{is_key, heard}
 use Rattle.kfs_judge.proofs.Hearing.{get_heard}
 use Rattle.kfs_shows.proofs.Lookups.{same_bytes}
 use Rattle.kfs_core.specs.Clearing.{IsTidy, Sweeps, AreNodesNamed, NoOrphans}
-use Rattle.kfs_core.specs.Counted.{weigh, weigh_chunks, charge_in, chunks_in}
+use Rattle.kfs_core.specs.Counted.{charge_in, chunks_in}
 use Rattle.kfs_core.proofs.Listed.{found_front, front_found, front_sorted, few_front, only_inodes}
 
 abbrev Row : Type 0
@@ -85,35 +85,26 @@ module _ (old new : Objects) (tidy : IsTidy old) (swept : Sweeps old new) (none 
           let gone = swept.gone node.0 node.2 (λ z. let bad : Some u ≡ None = sym f ∙ z in absurd (cc)) (none node.0) in
           absurd (let bad : Some v ≡ None = sym there.1 ∙ ap (objects.get new) node.1 ∙ gone in cc)
 
-  module _ (weight judged : Option (ℕ × ℕ) → ℕ) (same : (o : Option (ℕ × ℕ)) → weight o ≡ judged o) where
-    each : (e : Row) → is_left e.0 ≡ true → weight (read_inode e.1) ≤ cond (is_orphan (heard old) e.0) 0 (judged (read_inode e.1))
+  module _ (weight : Option (ℕ × ℕ) → ℕ) where
+    each : (e : Row) → is_left e.0 ≡ true → weight (read_inode e.1) ≤ cond (is_orphan (heard old) e.0) 0 (weight (read_inode e.1))
     each e is = by (find bytes_cmp e.0 after) refl
       where
-        by : (o : Option (List ℕ)) → find bytes_cmp e.0 after ≡ o → weight (read_inode e.1) ≤ cond (is_orphan (heard old) e.0) 0 (judged (read_inode e.1))
+        by : (o : Option (List ℕ)) → find bytes_cmp e.0 after ≡ o → weight (read_inode e.1) ≤ cond (is_orphan (heard old) e.0) 0 (weight (read_inode e.1))
         by None f = absurd (let bad : false ≡ true = sym (ap is_some f) ∙ is in cc)
         by (Some v) f =
-            let now : cond (is_orphan (heard old) e.0) 0 (judged (read_inode e.1)) ≡ judged (read_inode e.1) = ap (λ b. cond b 0 (judged (read_inode e.1))) (no_orphan e.0 v f) in
-            let w = same (read_inode e.1) in
+            let now : cond (is_orphan (heard old) e.0) 0 (weight (read_inode e.1)) ≡ weight (read_inode e.1) = ap (λ b. cond b 0 (weight (read_inode e.1))) (no_orphan e.0 v f) in
             omega arith
 
-    within : objects.len new ≤ 68544 → sum_by (λ e. weight (read_inode e.1)) (take (2 ^ 32 - 1) after) ≤ sum_named judged (heard old)
+    within : objects.len new ≤ 68544 → sum_by (λ e. weight (read_inode e.1)) (take (2 ^ 32 - 1) after) ≤ sum_named weight (heard old)
     within few =
         let whole = take_all (2 ^ 32 - 1) after (short_list (length after) (objects.len new) (2 ^ 32 - 1) (few_front new inode_front) few refl) ∙ left_of in
-        subst (λ l. sum_by (λ (e : Row). weight (read_inode e.1)) l ≤ sum_named judged (heard old)) (sym whole)
-        (some_less (λ e. is_left e.0) (λ e. weight (read_inode e.1)) (λ e. cond (is_orphan (heard old) e.0) 0 (judged (read_inode e.1))) each before)
-
-  same_keys : (o : Option (ℕ × ℕ)) → weigh o ≡ keys_of o
-  same_keys None = refl
-  same_keys (Some (kind, size)) = refl
-
-  same_chunks : (o : Option (ℕ × ℕ)) → weigh_chunks o ≡ chunks_of o
-  same_chunks None = refl
-  same_chunks (Some (kind, size)) = refl
+        subst (λ l. sum_by (λ (e : Row). weight (read_inode e.1)) l ≤ sum_named weight (heard old)) (sym whole)
+        (some_less (λ e. is_left e.0) (λ e. weight (read_inode e.1)) (λ e. cond (is_orphan (heard old) e.0) 0 (weight (read_inode e.1))) each before)
 
   pub charge_within : objects.len new ≤ 68544 → charge_in new ≤ named_charge (heard old)
   unfolding charge_in named_charge
-  charge_within few = one_more _ _ (within weigh keys_of same_keys few)
+  charge_within few = one_more _ _ (within keys_of few)
 
   pub chunks_within : objects.len new ≤ 68544 → chunks_in new ≤ named_chunks (heard old)
   unfolding chunks_in named_chunks
-  chunks_within few = within weigh_chunks chunks_of same_chunks few
+  chunks_within few = within chunks_of few

@@ -11,14 +11,13 @@ use Rattle.kfs_model.specs.Ladder.{◌>>=◌, ◌>>◌, ◌when◌}
 use Rattle.kfs_model.specs.Tree.{greatest_length}
 use Rattle.kfs_model.specs.Change.{spanned}
 use Rattle.kfs_tx.specs.Tx.{Tx, seen, put_in, one_change, PutFault, GetFault, ChangeFault}
-use Rattle.kfs_file.specs.Contents.{WritesFile, ReadsFile, ChangesAtMost, touched}
-use Rattle.kfs_file.specs.Contents as contents
+use Rattle.kfs_file.specs.Contents.{WritesFile, ReadsFile, ChangesAtMost, FailsWithin, touched}
 use Rattle.kfs_core.specs.declared.fault.CoreFault.{CoreFault}
 use Rattle.kfs_core.specs.declared.fault.CoreFault.TheVariants.{No, Device}
 use Rattle.kfs_core.specs.declared.room.Space.{Space}
 use Rattle.kfs_core.specs.Core.{KfsState, tx_in, Stays, Takes, Same}
 use Rattle.kfs_core.specs.Flat.{inode_in}
-use Rattle.kfs_core.specs.Gives.{Fails}
+use Rattle.kfs_core.specs.Returned.{RefusesAs}
 use Rattle.kfs_core.specs.Room.{space_in, chunks_for, fits_in, grown}
 
 -- the length of a file, by its inode
@@ -32,7 +31,7 @@ file_at (Some (kind, size)) = do
 -- what reading gave
 abbrev pub Reads : Objects → ℕ → ℕ → ℕ → Result (List ℕ) CoreFault → Type 0
 Reads m node offset count (Ok text) = (size : ℕ) × (file_at (inode_in m node) ≡ Ok size) × ReadsFile m node size offset count text
-Reads m node offset count (Err fault) = Fails fault (file_at (inode_in m node))
+Reads m node offset count (Err fault) = RefusesAs fault (file_at (inode_in m node))
 
 -- whether some of so many bytes may be written from a place on, and the length of the file
 abbrev pub write_in : Objects → Space → ℕ → ℕ → ℕ → Result ℕ Errno
@@ -59,7 +58,7 @@ Wrote old node size offset given new =
 -- what failed of it
 abbrev pub WriteFault : Tx → ℕ → ℕ → ℕ → List ℕ → DeviceFault → Machine → Type 0
 WriteFault old node size offset given fault new =
-    contents.Fails old (touched offset (length given)) fault new
+    FailsWithin old (touched offset (length given)) fault new
     ⊎ ((put : Tx) × PutsBytes old node offset given put × (
     PutFault put (inode_key node) (inode_value 2 (grown size offset (length given))) fault new
     ⊎ ChangeFault (with_length put node (grown size offset (length given))) (2 + spanned offset (length given)) put.next fault new))

@@ -1,10 +1,10 @@
 -- The walk and its answers, over objects.
-use Rattle.std.specs.Prelude.{ℕ, ◌+◌, ◌-◌, ◌==◌, ◌&&◌, ◌^◌, nat_lt, Bool, List, [], ◌∷◌, ◌++◌, length, take, drop, map, get_or, Option, Some, None, is_some, Result, Ok, Err, if◌then◌else◌}
+use Rattle.std.specs.Prelude.{ℕ, ◌+◌, ◌-◌, ◌==◌, ◌&&◌, ◌^◌, nat_lt, Bool, List, [], ◌∷◌, ◌++◌, length, take, get_or, Option, Some, None, is_some, Result, Ok, Err, if◌then◌else◌}
 use Rattle.std.specs.Option.{option_map, option_and_then}
 use Rattle.std.specs.FinMap as objects
-use Rattle.kv_device.specs.Objects.{Objects, pairs_from}
-use Rattle.kfs_objects.specs.Keys.{inode_key, entry_key}
-use Rattle.kfs_objects.specs.Records.{read_inode, read_entry}
+use Rattle.kv_device.specs.Objects.{Objects}
+use Rattle.kfs_objects.specs.Keys.{inode_key}
+use Rattle.kfs_objects.specs.Records.{read_inode}
 use Rattle.kfs_path.specs.declared.call.Errno.{Errno}
 use Rattle.kfs_path.specs.declared.call.Errno.TheVariants.{ENOENT, ENOTDIR, EEXIST, ENOSPC}
 use Rattle.kfs_path.specs.declared.call.Reply.{Reply}
@@ -12,14 +12,11 @@ use Rattle.kfs_path.specs.declared.call.Reply.TheVariants as replies
 use Rattle.kfs_model.specs.Ladder.{◌>>=◌, ◌>>◌, ◌when◌}
 use Rattle.kfs_model.specs.Tree.{Name, is_dot, is_dot_dot}
 use Rattle.kfs_model.specs.Step.{Route, syntax}
+use Rattle.kfs_dir.specs.Directory.{names_under, node_under}
 
 -- the kind and the length of a node
 abbrev pub inode_in : Objects → ℕ → Option (ℕ × ℕ)
 inode_in m n = option_and_then read_inode (objects.get m (inode_key n))
-
--- the node under a name
-abbrev pub find_in : Objects → ℕ → Name → Option ℕ
-find_in m n name = option_and_then read_entry (objects.get m (entry_key n name))
 
 -- how far a walk came: the directories above, from the root, the node, and the last name gone down
 pub record Where : Type 0 where
@@ -46,7 +43,7 @@ abbrev pub further_in : Objects → Where → ℕ → Name → Where
 further_in m w n piece =
     if is_dot piece then w else
     if is_dot_dot piece then up_from w else
-    record { above = w.above ++ n ∷ []; node = find_in m n piece; name = piece }
+    record { above = w.above ++ n ∷ []; node = node_under m n piece; name = piece }
 
 abbrev pub walk_in : Objects → Where → List Name → Result Where Errno
 walk_in m w [] = Ok w
@@ -68,9 +65,9 @@ stat_in m path = do
   w ← walk_in m at_root route.pieces
   told_in (found_in m w.node) route.trailing
 
--- the names in a directory
+-- the names in a directory: the first 2^32 - 1, as one call of the device gives them
 abbrev pub names_of : Objects → ℕ → List Name
-names_of m n = map (λ e. drop 9 e.0) (take (2 ^ 32 - 1) (pairs_from m (entry_key n []) (entry_key n [])))
+names_of m n = take (2 ^ 32 - 1) (names_under m n)
 
 abbrev pub listed_in : Objects → Option (ℕ × ℕ × ℕ) → Result Reply Errno
 listed_in m None = Err ENOENT

@@ -1,5 +1,5 @@
 pub mod Fault
-pub mod Gives
+pub mod Returned
 pub mod Flat
 pub mod Spot
 pub mod Making

@@ -1,23 +1,24 @@
 -- A name is taken away, and its node goes, or stays without a name while it is open.
-use Rattle.std.specs.Prelude.{ℕ, ◌≡◌, ◌+◌, ◌-◌, ◌==◌, ◌⊎◌, nat_lt, Bool, true, false, not, ◌||◌, List, [], length, take, Option, Some, None, Result, Ok, Err, if◌then◌else◌}
+use Rattle.std.specs.Prelude.{ℕ, ◌≡◌, ◌+◌, ◌-◌, ◌==◌, ◌⊎◌, nat_lt, Bool, true, false, not, ◌||◌, List, length, Option, Some, None, Result, Ok, Err, if◌then◌else◌}
 use Rattle.std.specs.List.{list_any}
 use Rattle.std.specs.Str.{bytes_eq}
 use Rattle.kv_device.specs.declared.fault.DeviceFault.{DeviceFault}
 use Rattle.kv_device.specs.Machine.{Machine}
-use Rattle.kv_device.specs.Objects.{Objects, pairs_from}
+use Rattle.kv_device.specs.Objects.{Objects}
 use Rattle.kfs_objects.specs.Keys.{be64, inode_key, entry_key, orphan_key}
 use Rattle.kfs_objects.specs.Records.{orphan_value}
 use Rattle.kfs_path.specs.declared.call.Errno.{Errno}
 use Rattle.kfs_path.specs.declared.call.Errno.TheVariants.{ENOENT, ENOTDIR, EPERM, EBUSY, EINVAL, ENOTEMPTY, EFBIG}
 use Rattle.kfs_model.specs.Ladder.{◌>>=◌, ◌>>◌, ◌when◌}
+pub use Rattle.kfs_model.specs.Tree.{chunks_for}
 use Rattle.kfs_model.specs.Tree.{greatest_length, is_dot, is_dot_dot}
 use Rattle.kfs_model.specs.Step.{Route, is_root, ends_by, ends_in_dots}
 use Rattle.kfs_tx.specs.Tx.{Tx, put_in, deleted_in, one_change, GetFault, ChangeFault}
-use Rattle.kfs_file.specs.Contents.{RemovesChunks, ChangesAtMost, Fails}
+use Rattle.kfs_dir.specs.Directory.{names_under}
+use Rattle.kfs_file.specs.Contents.{RemovesChunks, ChangesAtMost, FailsWithin}
 use Rattle.kfs_core.specs.declared.fault.CoreFault.{CoreFault}
 use Rattle.kfs_core.specs.declared.fault.CoreFault.TheVariants.{No, Device}
 pub use Rattle.kfs_core.specs.declared.removing.Leaf.{Leaf}
-pub use Rattle.kfs_core.specs.Room.{chunks_for}
 use Rattle.kfs_core.specs.Core.{KfsState, tx_in, Stays, Same}
 use Rattle.kfs_core.specs.Flat.{Where, at_root, walk_in, found_in}
 use Rattle.kfs_core.specs.Making.{parent_of}
@@ -34,7 +35,7 @@ leaf_at w n size = record { parent = parent_of w; name = w.name; node = n; size 
 
 -- a directory has a name in it
 abbrev pub has_names : Objects → ℕ → Bool
-has_names m n = nat_lt 0 (length (take 1 (pairs_from m (entry_key n []) (entry_key n []))))
+has_names m n = not (length (names_under m n) == 0)
 
 -- a file to be removed; no tree's file is longer than the greatest length
 abbrev pub file_to_go : Where → Option (ℕ × ℕ × ℕ) → Bool → Result Leaf Errno
@@ -113,7 +114,7 @@ pub record Unlinks (old : Tx) (leaf : Leaf) (open_now : Bool) (new : Tx) : Type 
 -- in the middle, or where the change was counted
 abbrev pub UnlinkFault : Tx → Leaf → Bool → DeviceFault → Machine → Type 0
 UnlinkFault old leaf open_now fault new =
-    Fails old (2 + chunks_gone leaf open_now) fault new
+    FailsWithin old (2 + chunks_gone leaf open_now) fault new
     ⊎ ((mid : Tx) × Unnames old leaf open_now mid × ChangeFault mid (4 + chunks_gone leaf open_now) mid.next fault new)
 
 -- so many keys and chunks fewer are taken
@@ -147,7 +148,7 @@ pub record Releases (old : Tx) (node size : ℕ) (new : Tx) : Type 0 where
 
 abbrev pub ReleaseFault : Tx → ℕ → ℕ → DeviceFault → Machine → Type 0
 ReleaseFault old node size fault new =
-    Fails old (2 + chunks_for size) fault new
+    FailsWithin old (2 + chunks_for size) fault new
     ⊎ ((mid : Tx) × Goes old node size mid × ChangeFault (deleted_in mid (orphan_key node)) (4 + chunks_for size) mid.next fault new)
 
 pub record Released (old : KfsState) (node : ℕ) (judged : Result ℕ Errno) (new : KfsState) : Type 0 where

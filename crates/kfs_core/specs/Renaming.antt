@@ -14,7 +14,7 @@ use Rattle.kfs_model.specs.Ladder.{◌>>=◌, ◌>>◌, ◌when◌}
 use Rattle.kfs_model.specs.Tree.{greatest_length}
 use Rattle.kfs_model.specs.Step.{Route, is_root, ends_in_dots, or_else}
 use Rattle.kfs_tx.specs.Tx.{Tx, put_in, deleted_in, one_change, GetFault, ChangeFault}
-use Rattle.kfs_file.specs.Contents.{Fails}
+use Rattle.kfs_file.specs.Contents.{FailsWithin}
 use Rattle.kfs_core.specs.declared.fault.CoreFault.{CoreFault}
 use Rattle.kfs_core.specs.declared.fault.CoreFault.TheVariants.{No, Device}
 pub use Rattle.kfs_core.specs.declared.renaming.Move.{Move}
@@ -131,7 +131,7 @@ pub record Moves (old : Tx) (move : Move) (is_open : ℕ → Bool) (new : Tx) : 
 -- in the middle, or where the change was counted
 abbrev pub MoveFault : Tx → Move → (ℕ → Bool) → DeviceFault → Machine → Type 0
 MoveFault old move is_open fault new =
-    Fails old (3 + chunks_replaced move.replaced is_open) fault new
+    FailsWithin old (3 + chunks_replaced move.replaced is_open) fault new
     ⊎ ((mid : Tx) × Replaces old move.replaced is_open mid × ChangeFault (with_moved mid move) (4 + chunks_replaced move.replaced is_open) mid.next fault new)
 
 abbrev pub MovesTo : KfsState → Option Move → (ℕ → Bool) → KfsState → Type 0

@@ -8,10 +8,9 @@ use Rattle.kfs_objects.specs.Records.{inode_value}
 use Rattle.kfs_path.specs.declared.call.Errno.{Errno}
 use Rattle.kfs_path.specs.declared.call.Errno.TheVariants.{EFBIG, ENOSPC}
 use Rattle.kfs_model.specs.Ladder.{◌>>=◌, ◌>>◌, ◌when◌}
-use Rattle.kfs_model.specs.Tree.{greatest_length}
+use Rattle.kfs_model.specs.Tree.{greatest_length, chunk_bytes}
 use Rattle.kfs_tx.specs.Tx.{Tx, seen, one_change, PutFault, GetFault, ChangeFault}
-use Rattle.kfs_file.specs.Contents.{ResizesFile, ChangesAtMost}
-use Rattle.kfs_file.specs.Contents as contents
+use Rattle.kfs_file.specs.Contents.{ResizesFile, ChangesAtMost, FailsWithin}
 use Rattle.kfs_core.specs.declared.fault.CoreFault.{CoreFault}
 use Rattle.kfs_core.specs.declared.fault.CoreFault.TheVariants.{No, Device}
 use Rattle.kfs_core.specs.declared.room.Space.{Space}
@@ -34,7 +33,7 @@ resize_in m space node length = do
 
 -- the keys of chunks that change, from a length to another
 abbrev pub keys_cut : ℕ → ℕ → ℕ
-keys_cut old new = if nat_lt new old then (old + 4095) / 4096 - new / 4096 else 0
+keys_cut old new = if nat_lt new old then chunks_for old - new / chunk_bytes else 0
 
 -- the weight of that change
 abbrev pub resize_weight : ℕ → ℕ → ℕ
@@ -53,7 +52,7 @@ Resizes old node size length new =
 -- what failed of it
 abbrev pub ResizeFault : Tx → ℕ → ℕ → ℕ → DeviceFault → Machine → Type 0
 ResizeFault old node size length fault new =
-    contents.Fails old (keys_cut size length) fault new
+    FailsWithin old (keys_cut size length) fault new
     ⊎ ((put : Tx) × PutsLength old node size length put × (
     PutFault put (inode_key node) (inode_value 2 length) fault new
     ⊎ ChangeFault (with_length put node length) (resize_weight size length) put.next fault new))

@@ -3,6 +3,7 @@ ghost use Rattle.std.specs.Prelude.{◌≡◌, ◌≢◌, ◌<◌, ◌≤◌, �
 ghost use Rattle.std.specs.FinMap as objects;
 ghost use Rattle.kfs_objects.specs.Keys.{orphan_key, IsObjectKey};
 ghost use Rattle.kfs_judge.specs.Judging.{is_key};
+ghost use Rattle.kfs_model.specs.Tree.{greatest_keys};
 ghost use Rattle.kfs_tx.specs.Tx.{age_of, Aged, seen, GetFault};
 ghost use Rattle.kfs_core.specs.Clearing.{Clears, ClearFails, IsFresh, IsOrphanFronted, IsRoomy, IsTidy, NoOrphans, Sweeps};
 ghost use Rattle.kfs_core.specs.Flat.{inode_in};
@@ -128,7 +129,7 @@ pub fn clear<D: Device>(alloc: Global, running: &mut Running<D>) -> Result<(), D
     requires fresh { IsFresh running.old.tx }
     requires tidy { IsTidy (seen running.old.tx) }
     requires room { IsRoomy running.old.tx }
-    requires few { objects.len (seen running.old.tx) ≤ 68544 }
+    requires few { objects.len (seen running.old.tx) ≤ greatest_keys }
     ensures clears { OnOk result (Clears running.old.tx running.new.tx) }
     ensures sweeps { OnOk result (Sweeps (seen running.old.tx) (seen running.new.tx)) }
     ensures none { OnOk result (NoOrphans (seen running.new.tx)) }

@@ -2,11 +2,14 @@
 ghost use Rattle.std.specs.Prelude.{◌≡◌, ◌≤◌, ◌+◌, ◌<◌, ◌-◌, ◌^◌, true, OnOk, IfOk, IfErr, IfSome};
 ghost use Rattle.std.specs.FinMap as objects;
 ghost use Rattle.kfs_objects.specs.Records.{read_inode};
+ghost use Rattle.kfs_model.specs.Tree.{greatest_keys, greatest_length};
 ghost use Rattle.kfs_tx.specs.Tx.{age_of, Aged, seen, GetFault};
+ghost use Rattle.kfs_damages.specs.Damages.{keys_of, chunks_of};
 ghost use Rattle.kfs_judge.specs.Judging.{is_key};
 ghost use Rattle.kfs_core.specs.Clearing.{IsTidy, AreNodesNamed};
-ghost use Rattle.kfs_core.specs.Counted.{weigh, weigh_chunks, charge_in, chunks_in};
+ghost use Rattle.kfs_core.specs.Counted.{charge_in, chunks_in};
 
+use kfs_model::chunks_for;
 use kfs_objects::{Inode, inode_prefix};
 use kfs_tx::Running;
 use kv_base::{Pair, Value};
@@ -23,16 +26,16 @@ pub struct Taken {
 
 /// The keys and the chunks that a node takes, where its inode reads.
 fn weigh(value: &Value) -> (u64, u64)
-    requires { IfSome (read_inode value.now) (λ i. i.1 ≤ 2 ^ 20) }
-    ensures keys { result.0 ≡ weigh (read_inode value.now) }
-    ensures chunks { result.1 ≡ weigh_chunks (read_inode value.now) }
+    requires { IfSome (read_inode value.now) (λ i. i.1 ≤ greatest_length) }
+    ensures keys { result.0 ≡ keys_of (read_inode value.now) }
+    ensures chunks { result.1 ≡ chunks_of (read_inode value.now) }
     ensures fewer { result.1 ≤ result.0 }
     ensures most { result.0 ≤ 258 }
 {
     match Inode::read(value) {
         None => (0, 0),
         Some(it) => {
-            let chunks = (it.length + 4095) / 4096;
+            let chunks = chunks_for(it.length);
             (2 + chunks, chunks)
         }
     }
@@ -40,10 +43,10 @@ fn weigh(value: &Value) -> (u64, u64)
 
 /// The same of the object of an inode.
 fn weigh_pair(pair: &Pair) -> (u64, u64)
-    requires { is_key pair.now.key ≡ true → IfSome (read_inode pair.now.value) (λ i. i.1 ≤ 2 ^ 20) }
+    requires { is_key pair.now.key ≡ true → IfSome (read_inode pair.now.value) (λ i. i.1 ≤ greatest_length) }
     ensures named { is_key pair.now.key ≡ true }
-    ensures keys { result.0 ≡ weigh (read_inode pair.now.value) }
-    ensures chunks { result.1 ≡ weigh_chunks (read_inode pair.now.value) }
+    ensures keys { result.0 ≡ keys_of (read_inode pair.now.value) }
+    ensures chunks { result.1 ≡ chunks_of (read_inode pair.now.value) }
     ensures fewer { result.1 ≤ result.0 }
     ensures most { result.0 ≤ 258 }
 {
@@ -56,7 +59,7 @@ fn weigh_pair(pair: &Pair) -> (u64, u64)
 pub fn count<D: Device>(alloc: Global, running: &mut Running<D>) -> Result<Taken, DeviceFault>
     requires age { age_of running.old < 2 ^ 63 - 2 ^ 39 }
     requires tidy { IsTidy (seen running.old.tx) }
-    requires few { objects.len (seen running.old.tx) ≤ 68544 }
+    requires few { objects.len (seen running.old.tx) ≤ greatest_keys }
     ensures named { OnOk result (AreNodesNamed (seen running.new.tx)) }
     ensures charge { IfOk result (λ n. n.charge ≡ charge_in (seen running.old.tx)) }
     ensures chunks { IfOk result (λ n. n.chunks ≡ chunks_in (seen running.old.tx)) }

@@ -1,37 +1,20 @@
-// Directories: the names in one, and the place for a new one.
-ghost use Rattle.std.specs.Prelude.{◌≡◌, ◌+◌, ◌<◌, ◌≤◌, ◌-◌, ◌^◌, true, map, drop, length, All, OnOk, IfOk, IfErr};
+// The place for a new node.
+ghost use Rattle.std.specs.Prelude.{◌≡◌, ◌+◌, ◌<◌, ◌≤◌, ◌-◌, ◌^◌, length, All, OnOk, IfOk};
 ghost use Rattle.kfs_objects.specs.Keys.{IsNamed};
-ghost use Rattle.kfs_tx.specs.Tx.{age_of, Aged, seen, GetFault};
-ghost use Rattle.kfs_core.specs.Flat.{names_of, new_at};
-ghost use Rattle.kfs_core.specs.Gives.{Gives, Leaves};
+ghost use Rattle.kfs_tx.specs.Tx.{age_of, Aged, seen};
+ghost use Rattle.kfs_core.specs.Flat.{new_at};
+ghost use Rattle.kfs_core.specs.Returned.{JudgesAs, Leaves};
 ghost use Rattle.kfs_core.specs.Spot.{where_of, route_of};
 
 use crate::CoreFault;
 use crate::walking::{Spot, walk};
-use kfs_dir::list;
 use kfs_path::{Errno, Path};
 use kfs_tx::Running;
-use kv_base::Names;
-use kv_device::{Device, DeviceFault};
+use kv_device::Device;
 use std::alloc::Global;
 
 /// The kind of a file.
 const FILE: u8 = 2;
-
-/// The names in a directory.
-pub fn names<D: Device>(
-    alloc: Global,
-    running: &mut Running<D>,
-    node: u64,
-) -> Result<Names, DeviceFault>
-    requires { age_of running.old < 2 ^ 63 - 2 ^ 39 }
-    ensures gives { IfOk result (λ names. names ≡ names_of (seen running.old.tx) node) }
-    ensures same { OnOk result (running.new.tx ≡ running.old.tx) }
-    ensures err { IfErr result (λ fault. GetFault running.old.tx fault running.new.tx.machine) }
-    ensures age { Aged running.old running.new 0 }
-{
-    list(alloc, running, node)
-}
 
 /// Where a new node goes. A directory is of kind 1, a file of kind 2.
 pub fn place<D: Device>(
@@ -45,7 +28,7 @@ pub fn place<D: Device>(
     requires age { age_of running.old < 2 ^ 63 - 2 ^ 39 }
     requires charge { charge ≤ keys }
     requires named { All IsNamed path.now.pieces }
-    ensures gives { Gives where_of result (new_at (seen running.old.tx) keys charge kind (route_of path.now)) }
+    ensures gives { JudgesAs where_of result (new_at (seen running.old.tx) keys charge kind (route_of path.now)) }
     ensures named { IfOk result (λ spot. IsNamed spot.name) }
     ensures below { IfOk result (λ spot. 0 < length spot.above.items) }
     ensures fits { OnOk result (charge + 2 ≤ keys) }

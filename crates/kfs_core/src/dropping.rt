@@ -1,17 +1,15 @@
 // The objects of a node, deleted.
 ghost use Rattle.std.specs.Prelude.{◌≡◌, ◌+◌, ◌<◌, ◌≤◌, ◌-◌, ◌^◌, OnOk, IfErr};
 ghost use Rattle.kfs_objects.specs.Keys.{inode_key, orphan_key};
+ghost use Rattle.kfs_model.specs.Tree.{greatest_length};
 ghost use Rattle.kfs_tx.specs.Tx.{age_of, Aged, deleted_in};
-ghost use Rattle.kfs_file.specs.Contents.{Fails, RemoveFault};
+ghost use Rattle.kfs_file.specs.Contents.{FailsWithin, RemoveFault};
 ghost use Rattle.kfs_core.specs.Removing.{Goes, chunks_for};
 
 use kfs_objects::{inode_key, orphan_key};
 use kfs_tx::Running;
 use kv_device::{Device, DeviceFault};
 use std::alloc::Global;
-
-/// The most bytes of a file.
-pub const GREATEST_LENGTH: u64 = 1 << 20;
 
 fn delete_inode<D: Device>(
     alloc: Global,
@@ -50,9 +48,9 @@ pub fn drop_node<D: Device>(
     size: u64,
 ) -> Result<(), DeviceFault>
     requires age { age_of running.old < 2 ^ 63 - 2 ^ 39 }
-    requires size { size ≤ 2 ^ 20 }
+    requires size { size ≤ greatest_length }
     ensures goes { OnOk result (Goes running.old.tx node size running.new.tx) }
-    ensures err { IfErr result (λ fault. Fails running.old.tx (1 + chunks_for size) fault running.new.tx.machine) }
+    ensures err { IfErr result (λ fault. FailsWithin running.old.tx (1 + chunks_for size) fault running.new.tx.machine) }
     ensures age { Aged running.old running.new 0 }
 {
     kfs_file::remove(alloc, running, node, size)?;

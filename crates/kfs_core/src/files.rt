@@ -2,21 +2,23 @@
 ghost use Rattle.std.specs.Prelude.{◌≡◌, ◌≤◌, ◌<◌, ◌+◌, ◌-◌, ◌^◌, All, length, OnOk, IfOk, IfErr};
 ghost use Rattle.kfs_objects.specs.Keys.{IsNamed};
 ghost use Rattle.kfs_path.specs.declared.call.Reply.TheVariants as replies;
+ghost use Rattle.kfs_model.specs.Tree.{greatest_length};
 ghost use Rattle.kfs_tx.specs.Tx.{age_of, Aged, seen};
 ghost use Rattle.kfs_core.specs.Core.{tx_in, Stays};
 ghost use Rattle.kfs_core.specs.Flat.{create_at, inode_in, reach_in};
 ghost use Rattle.kfs_core.specs.Files.{file_at, Reads, write_in, Wrote, WriteDoes, WriteFault};
-ghost use Rattle.kfs_core.specs.Gives.{Gives, Leaves};
+ghost use Rattle.kfs_core.specs.Returned.{JudgesAs, Leaves};
 ghost use Rattle.kfs_core.specs.Making.{CreateDoes};
 ghost use Rattle.kfs_core.specs.Room.{space_in, fits_in, grown};
 ghost use Rattle.kfs_core.specs.Spot.{route_of, told_of};
 
 use crate::directories::place;
 use crate::making::{add_node, put_inode};
-use crate::room::{Space, chunks_for, fits};
+use crate::room::{Space, fits};
 use crate::walking::{inode, node_at, parent, walk};
 use crate::{CoreFault, Kfs};
 use kfs_file::{read_at, write_at};
+use kfs_model::{CHUNK, GREATEST_LENGTH, chunks_for};
 use kfs_objects::Inode;
 use kfs_path::{Errno, Path, Reply};
 use kfs_tx::Running;
@@ -24,21 +26,19 @@ use kv_base::Text;
 use kv_device::{Device, DeviceFault};
 use std::alloc::Global;
 
-/// The most bytes of a file.
-const GREATEST_LENGTH: u64 = 1 << 20;
-
 impl<D: Device> Kfs<D> {
     /// What a path names, and its inode, or nothing where only the last name is missing. A trailing
     /// slash isn't judged.
     pub fn find(&mut self, alloc: Global, path: &Path) -> Result<Option<(u64, Inode)>, CoreFault>
         requires age { age_of self.old.running < 2 ^ 63 - 2 ^ 39 }
         requires named { All IsNamed path.now.pieces }
-        ensures gives { Gives told_of result (reach_in (seen (tx_in self.old)) (route_of path.now)) }
+        ensures gives { JudgesAs told_of result (reach_in (seen (tx_in self.old)) (route_of path.now)) }
         ensures leaves { Leaves (tx_in self.old) result (tx_in self.new) }
         ensures rest { Stays self.old self.new }
         ensures age { Aged self.old.running self.new.running 0 }
     {
-        reach(alloc, &mut self.running, path)
+        let spot = walk(alloc, &mut self.running, path.pieces.items())?;
+        Ok(node_at(alloc, &mut self.running, spot.node)?)
     }
 
     /// Makes a file without bytes, and answers its node.
@@ -76,7 +76,8 @@ impl<D: Device> Kfs<D> {
         ensures rest { Stays self.old self.new }
         ensures age { Aged self.old.running self.new.running 0 }
     {
-        read(alloc, &mut self.running, node, offset, count)
+        let size = length_of(alloc, &mut self.running, node)?;
+        Ok(read_at(alloc, &mut self.running, node, size, offset, count)?)
     }
 
     /// Writes as many of the bytes, 1 to 1,048,576 of them, into a file as there is room for from an
@@ -129,21 +130,6 @@ impl<D: Device> Kfs<D> {
     }
 }
 
-fn reach<D: Device>(
-    alloc: Global,
-    running: &mut Running<D>,
-    path: &Path,
-) -> Result<Option<(u64, Inode)>, CoreFault>
-    requires age { age_of running.old < 2 ^ 63 - 2 ^ 39 }
-    requires named { All IsNamed path.now.pieces }
-    ensures gives { Gives told_of result (reach_in (seen running.old.tx) (route_of path.now)) }
-    ensures leaves { Leaves running.old.tx result running.new.tx }
-    ensures age { Aged running.old running.new 0 }
-{
-    let spot = walk(alloc, running, path.pieces.items())?;
-    Ok(node_at(alloc, running, spot.node)?)
-}
-
 /// The length of a file.
 pub(crate) fn length_of<D: Device>(
     alloc: Global,
@@ -151,8 +137,8 @@ pub(crate) fn length_of<D: Device>(
     node: u64,
 ) -> Result<u64, CoreFault>
     requires { age_of running.old < 2 ^ 63 - 2 ^ 39 }
-    ensures gives { Gives (λ n. n) result (file_at (inode_in (seen running.old.tx) node)) }
-    ensures small { IfOk result (λ n. n ≤ 1048576) }
+    ensures gives { JudgesAs (λ n. n) result (file_at (inode_in (seen running.old.tx) node)) }
+    ensures small { IfOk result (λ n. n ≤ greatest_length) }
     ensures leaves { Leaves running.old.tx result running.new.tx }
     ensures age { Aged running.old running.new 0 }
 {
@@ -170,22 +156,6 @@ pub(crate) fn length_of<D: Device>(
     }
 }
 
-fn read<D: Device>(
-    alloc: Global,
-    running: &mut Running<D>,
-    node: u64,
-    offset: u64,
-    count: u32,
-) -> Result<Text, CoreFault>
-    requires { age_of running.old < 2 ^ 63 - 2 ^ 39 }
-    ensures reads { Reads (seen running.old.tx) node offset count result }
-    ensures leaves { Leaves running.old.tx result running.new.tx }
-    ensures age { Aged running.old running.new 0 }
-{
-    let size = length_of(alloc, running, node)?;
-    Ok(read_at(alloc, running, node, size, offset, count)?)
-}
-
 /// The length of a file into which some of so many bytes may be written from an offset on.
 fn writable<D: Device>(
     alloc: Global,
@@ -198,8 +168,8 @@ fn writable<D: Device>(
     requires age { age_of running.old < 2 ^ 63 - 2 ^ 39 }
     requires charge { space.now.charge ≤ space.now.keys }
     requires chunks { space.now.chunks ≤ space.now.pages }
-    ensures gives { Gives (λ n. n) result (write_in (seen running.old.tx) space.now node offset count) }
-    ensures small { IfOk result (λ n. n ≤ 1048576) }
+    ensures gives { JudgesAs (λ n. n) result (write_in (seen running.old.tx) space.now node offset count) }
+    ensures small { IfOk result (λ n. n ≤ greatest_length) }
     ensures some { IfOk result (λ n. 0 < fits_in space.now n offset count) }
     ensures leaves { Leaves running.old.tx result running.new.tx }
     ensures age { Aged running.old running.new 0 }
@@ -224,9 +194,9 @@ fn put_bytes<D: Device>(
     given: &[u8],
 ) -> Result<u64, DeviceFault>
     requires age { age_of running.old < 2 ^ 63 - 2 ^ 39 }
-    requires size { size ≤ 1048576 }
+    requires size { size ≤ greatest_length }
     requires some { 0 < length given.now }
-    requires fits { offset + length given.now ≤ 1048576 }
+    requires fits { offset + length given.now ≤ greatest_length }
     ensures wrote { OnOk result (Wrote running.old.tx node size offset given.now running.new.tx) }
     ensures size { IfOk result (λ n. n ≡ grown size offset (length given.now)) }
     ensures err { IfErr result (λ fault. WriteFault running.old.tx node size offset given.now fault running.new.tx.machine) }
@@ -238,8 +208,8 @@ fn put_bytes<D: Device>(
         length: new,
     };
     put_inode(alloc, running, node, inode)?;
-    let last = (offset + given.len() as u64 - 1) / 4096;
-    let chunks = last - offset / 4096 + 1;
+    let last = (offset + given.len() as u64 - 1) / CHUNK;
+    let chunks = last - offset / CHUNK + 1;
     let next = running.head().next;
     running.change(alloc, 2 + chunks as u32, next)?;
     Ok(new)

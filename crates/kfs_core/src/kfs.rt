@@ -8,23 +8,25 @@ ghost use Rattle.kv_device.specs.Calls.{Ages};
 ghost use Rattle.kfs_objects.specs.Keys.{IsNamed};
 ghost use Rattle.kfs_damages.specs.Damages.{IsClear, HasHead, named_charge, named_chunks};
 ghost use Rattle.kfs_judge.specs.Judging.{heard, room_in};
+ghost use Rattle.kfs_model.specs.Tree.{greatest_keys};
 ghost use Rattle.kfs_tx.specs.Tx.{age_of, Aged, seen, committed};
 ghost use Rattle.kfs_core.specs.Clearing.{Clears, ClearFails, IsFresh, IsRoomy, IsTidy, NoOrphans};
 ghost use Rattle.kfs_core.specs.Core.{tx_in, Stays};
 ghost use Rattle.kfs_core.specs.Counted.{charge_in, chunks_in};
 ghost use Rattle.kfs_core.specs.Flat.{lookup_in, inode_in, inode_at, children_at, place_at};
-ghost use Rattle.kfs_core.specs.Gives.{Gives, Leaves, CommitFails};
+ghost use Rattle.kfs_core.specs.Returned.{JudgesAs, Leaves, CommitFails};
 ghost use Rattle.kfs_core.specs.Making.{MkdirDoes};
 ghost use Rattle.kfs_core.specs.Spot.{route_of};
 ghost use Rattle.kfs_core.specs.Starting.{Started, Starts, NotMounted};
 
 use crate::clearing::clear;
 use crate::counting::{Taken, count};
-use crate::directories::{names, place};
+use crate::directories::place;
 use crate::making::add_node;
 use crate::mounting::{host_fault, is_low, stored_super};
 use crate::walking::{inode, node_at, parent, walk};
 use crate::{CoreFault, HostFault};
+use kfs_dir::list;
 use kfs_judge::{JudgeFault, judge};
 use kfs_objects::{Inode, Super};
 use kfs_path::{Errno, Path};
@@ -61,7 +63,7 @@ impl<D: Device> Model for Kfs<D> {
 fn left_over<D: Device>(alloc: Global, running: &mut Running<D>) -> Result<Taken, DeviceFault>
     requires age { age_of running.old < 2 ^ 63 - 2 ^ 39 - 2 ^ 38 }
     requires fresh { IsFresh running.old.tx }
-    requires few { objects.len (seen running.old.tx) ≤ 68544 }
+    requires few { objects.len (seen running.old.tx) ≤ greatest_keys }
     requires tidy { IsTidy (seen running.old.tx) }
     requires room { IsRoomy running.old.tx }
     ensures clears { OnOk result (Clears running.old.tx running.new.tx) }
@@ -84,7 +86,7 @@ fn start<D: Device>(alloc: Global, device: D, head: Super) -> Result<Kfs<D>, (D,
     requires age { D.age device < 2 ^ 63 - 2 ^ 40 }
     requires up { (D.machine device).up ≡ true }
     requires idle { (D.machine device).pending ≡ none_open }
-    requires room { (D.machine device).room_keys ≤ 68544 }
+    requires room { (D.machine device).room_keys ≤ greatest_keys }
     requires clear { IsClear (room_in (D.machine device)) (heard (D.machine device).stable) }
     requires changes { head.changes < 2 ^ 62 }
     requires next { head.next < 2 ^ 62 }
@@ -122,7 +124,7 @@ fn resume<D: Device>(alloc: Global, device: D) -> Result<Kfs<D>, (D, HostFault)>
     requires age { D.age device < 2 ^ 63 - 2 ^ 40 }
     requires up { (D.machine device).up ≡ true }
     requires idle { (D.machine device).pending ≡ none_open }
-    requires room { (D.machine device).room_keys ≤ 68544 }
+    requires room { (D.machine device).room_keys ≤ greatest_keys }
     requires clear { IsClear (room_in (D.machine device)) (heard (D.machine device).stable) }
     requires head { HasHead (D.machine device).stable }
     ensures ok { IfOk result (λ kfs. Started (D.machine device) kfs) }
@@ -150,7 +152,7 @@ impl<D: Device> Kfs<D> {
         requires age { D.age device < 2 ^ 63 - 2 ^ 40 }
         requires up { (D.machine device).up ≡ true }
         requires idle { (D.machine device).pending ≡ none_open }
-        requires room { (D.machine device).room_keys ≤ 68544 }
+        requires room { (D.machine device).room_keys ≤ greatest_keys }
         ensures ok { IfOk result (λ kfs. Started (D.machine device) kfs) }
         ensures err { IfErr result (λ e. NotMounted (D.machine device) e.1 (D.machine e.0)) }
         ensures age { IfOk result (λ kfs. Ages (D.age device) kfs.running.device_age (2 ^ 38)) }
@@ -168,34 +170,58 @@ impl<D: Device> Kfs<D> {
     pub fn lookup(&mut self, alloc: Global, path: &Path) -> Result<u64, CoreFault>
         requires age { age_of self.old.running < 2 ^ 63 - 2 ^ 39 }
         requires named { All IsNamed path.now.pieces }
-        ensures gives { Gives (λ n. n) result (lookup_in (seen (tx_in self.old)) (route_of path.now)) }
+        ensures gives { JudgesAs (λ n. n) result (lookup_in (seen (tx_in self.old)) (route_of path.now)) }
         ensures leaves { Leaves (tx_in self.old) result (tx_in self.new) }
         ensures rest { Stays self.old self.new }
         ensures age { Aged self.old.running self.new.running 0 }
     {
-        look_up(alloc, &mut self.running, path)
+        let spot = walk(alloc, &mut self.running, path.pieces.items())?;
+        match node_at(alloc, &mut self.running, spot.node)? {
+            None => Err(CoreFault::No(Errno::ENOENT)),
+            Some((node, it)) => {
+                if it.kind == 1 {
+                    return Ok(node);
+                }
+                if path.trailing {
+                    return Err(CoreFault::No(Errno::ENOTDIR));
+                }
+                Ok(node)
+            }
+        }
     }
 
     /// The kind and the length of a node of the tree.
     pub fn stat(&mut self, alloc: Global, node: u64) -> Result<Inode, CoreFault>
         requires { age_of self.old.running < 2 ^ 63 - 2 ^ 39 }
-        ensures gives { Gives (λ i. (i.kind, i.length)) result (inode_at (inode_in (seen (tx_in self.old)) node)) }
+        ensures gives { JudgesAs (λ i. (i.kind, i.length)) result (inode_at (inode_in (seen (tx_in self.old)) node)) }
         ensures leaves { Leaves (tx_in self.old) result (tx_in self.new) }
         ensures rest { Stays self.old self.new }
         ensures age { Aged self.old.running self.new.running 0 }
     {
-        stat_node(alloc, &mut self.running, node)
+        match inode(alloc, &mut self.running, node)? {
+            None => Err(CoreFault::No(Errno::ENOENT)),
+            Some(it) => Ok(it),
+        }
     }
 
     /// The names in a directory, sorted by bytes.
     pub fn list(&mut self, alloc: Global, node: u64) -> Result<Names, CoreFault>
         requires { age_of self.old.running < 2 ^ 63 - 2 ^ 39 }
-        ensures gives { Gives (λ names. names) result (children_at (seen (tx_in self.old)) node (inode_in (seen (tx_in self.old)) node)) }
+        ensures gives { JudgesAs (λ names. names) result (children_at (seen (tx_in self.old)) node (inode_in (seen (tx_in self.old)) node)) }
         ensures leaves { Leaves (tx_in self.old) result (tx_in self.new) }
         ensures rest { Stays self.old self.new }
         ensures age { Aged self.old.running self.new.running 0 }
     {
-        children(alloc, &mut self.running, node)
+        match inode(alloc, &mut self.running, node)? {
+            None => Err(CoreFault::No(Errno::ENOENT)),
+            Some(it) => {
+                if it.kind == 1 {
+                    Ok(list(alloc, &mut self.running, node)?)
+                } else {
+                    Err(CoreFault::No(Errno::ENOTDIR))
+                }
+            }
+        }
     }
 
     /// Makes a directory, and answers its node.
@@ -274,69 +300,5 @@ impl<D: PlannedDevice> Kfs<D> {
         ensures asked { self.new.running.asked ≡ asks_fault self.old.running.asked kind n }
     {
         self.running.plan_fail(kind, n);
-    }
-}
-
-fn look_up<D: Device>(
-    alloc: Global,
-    running: &mut Running<D>,
-    path: &Path,
-) -> Result<u64, CoreFault>
-    requires age { age_of running.old < 2 ^ 63 - 2 ^ 39 }
-    requires named { All IsNamed path.now.pieces }
-    ensures gives { Gives (λ n. n) result (lookup_in (seen running.old.tx) (route_of path.now)) }
-    ensures leaves { Leaves running.old.tx result running.new.tx }
-    ensures age { Aged running.old running.new 0 }
-{
-    let spot = walk(alloc, running, path.pieces.items())?;
-    match node_at(alloc, running, spot.node)? {
-        None => Err(CoreFault::No(Errno::ENOENT)),
-        Some((node, it)) => {
-            if it.kind == 1 {
-                return Ok(node);
-            }
-            if path.trailing {
-                return Err(CoreFault::No(Errno::ENOTDIR));
-            }
-            Ok(node)
-        }
-    }
-}
-
-fn stat_node<D: Device>(
-    alloc: Global,
-    running: &mut Running<D>,
-    node: u64,
-) -> Result<Inode, CoreFault>
-    requires { age_of running.old < 2 ^ 63 - 2 ^ 39 }
-    ensures gives { Gives (λ i. (i.kind, i.length)) result (inode_at (inode_in (seen running.old.tx) node)) }
-    ensures leaves { Leaves running.old.tx result running.new.tx }
-    ensures age { Aged running.old running.new 0 }
-{
-    match inode(alloc, running, node)? {
-        None => Err(CoreFault::No(Errno::ENOENT)),
-        Some(it) => Ok(it),
-    }
-}
-
-fn children<D: Device>(
-    alloc: Global,
-    running: &mut Running<D>,
-    node: u64,
-) -> Result<Names, CoreFault>
-    requires { age_of running.old < 2 ^ 63 - 2 ^ 39 }
-    ensures gives { Gives (λ names. names) result (children_at (seen running.old.tx) node (inode_in (seen running.old.tx) node)) }
-    ensures leaves { Leaves running.old.tx result running.new.tx }
-    ensures age { Aged running.old running.new 0 }
-{
-    match inode(alloc, running, node)? {
-        None => Err(CoreFault::No(Errno::ENOENT)),
-        Some(it) => {
-            if it.kind == 1 {
-                Ok(names(alloc, running, node)?)
-            } else {
-                Err(CoreFault::No(Errno::ENOTDIR))
-            }
-        }
     }
 }

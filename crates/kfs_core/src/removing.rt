@@ -1,22 +1,21 @@
 // Names that are taken away, and nodes that go.
-ghost use Rattle.std.specs.Prelude.{◌≡◌, ◌+◌, ◌<◌, ◌≤◌, ◌-◌, ◌^◌, false, All, length, OnOk, IfOk, IfErr};
+ghost use Rattle.std.specs.Prelude.{◌≡◌, ◌+◌, ◌<◌, ◌≤◌, ◌-◌, ◌^◌, All, length, OnOk, IfOk, IfErr};
 ghost use Rattle.kfs_objects.specs.Keys.{IsNamed, orphan_key};
 ghost use Rattle.kfs_objects.specs.Records.{orphan_value};
-ghost use Rattle.kfs_model.specs.Step.{ends_in_dots, is_root};
-ghost use Rattle.kfs_tx.specs.Tx.{age_of, Aged, seen, put_in, GetFault, PutFault};
-ghost use Rattle.kfs_file.specs.Contents.{Fails};
+ghost use Rattle.kfs_model.specs.Tree.{greatest_length};
+ghost use Rattle.kfs_tx.specs.Tx.{age_of, Aged, seen, put_in, PutFault};
+ghost use Rattle.kfs_file.specs.Contents.{FailsWithin};
 ghost use Rattle.kfs_core.specs.Core.{tx_in};
-ghost use Rattle.kfs_core.specs.Flat.{at_root, inode_in, walk_in};
-ghost use Rattle.kfs_core.specs.Gives.{Gives, Leaves};
-ghost use Rattle.kfs_core.specs.Removing.{Loses, Releases, ReleaseDoes, ReleaseFault, TellsNode, UnlinkDoes, UnlinkFault, Unlinks, Unnames, chunks_for, chunks_gone, chunks_lost, dir_to_go, file_to_go, has_names, is_open_in, leaf_at, release_at, rmdir_in, unlink_in};
+ghost use Rattle.kfs_core.specs.Flat.{inode_in};
+ghost use Rattle.kfs_core.specs.Returned.{JudgesAs, Leaves};
+ghost use Rattle.kfs_core.specs.Removing.{Loses, Releases, ReleaseDoes, ReleaseFault, TellsNode, UnlinkDoes, UnlinkFault, Unlinks, Unnames, chunks_for, chunks_gone, chunks_lost, dir_to_go, file_to_go, is_open_in, leaf_at, release_at, rmdir_in, unlink_in};
 ghost use Rattle.kfs_core.specs.Spot.{route_of, where_of};
 
-use crate::dropping::{GREATEST_LENGTH, delete_orphan, drop_node};
-use crate::room::chunks_for;
+use crate::dropping::{delete_orphan, drop_node};
 use crate::walking::{Spot, inode, node_at, parent, walk};
 use crate::{CoreFault, Kfs};
 use kfs_dir::{is_empty, remove};
-use kfs_model::{ends_in_dot, ends_in_dot_dot, ends_in_dots, is_root};
+use kfs_model::{GREATEST_LENGTH, chunks_for, ends_in_dot, ends_in_dot_dot, ends_in_dots, is_root};
 use kfs_objects::{orphan_key, orphan_value};
 use kfs_path::{Errno, Path};
 use kfs_tx::Running;
@@ -120,26 +119,6 @@ pub(crate) fn leaf_at(spot: Spot, node: u64, size: u64) -> Leaf
     }
 }
 
-/// How far a walk came that ends in a name.
-pub(crate) fn walk_to_name<D: Device>(
-    alloc: Global,
-    running: &mut Running<D>,
-    pieces: &[Text],
-) -> Result<Spot, CoreFault>
-    requires age { age_of running.old < 2 ^ 63 - 2 ^ 39 }
-    requires named { All IsNamed pieces.now }
-    requires plain { ends_in_dots pieces.now ≡ false }
-    requires some { is_root pieces.now ≡ false }
-    ensures gives { Gives where_of result (walk_in (seen running.old.tx) at_root pieces.now) }
-    ensures named { IfOk result (λ spot. IsNamed spot.name) }
-    ensures below { IfOk result (λ spot. 0 < length spot.above.items) }
-    ensures leaves { Leaves running.old.tx result running.new.tx }
-    ensures age { Aged running.old running.new 0 }
-{
-    let spot = walk(alloc, running, pieces)?;
-    Ok(spot)
-}
-
 /// The file whose name a path is, where that may be taken away.
 fn named_file<D: Device>(
     alloc: Global,
@@ -148,9 +127,9 @@ fn named_file<D: Device>(
 ) -> Result<Leaf, CoreFault>
     requires age { age_of running.old < 2 ^ 63 - 2 ^ 39 }
     requires named { All IsNamed path.now.pieces }
-    ensures gives { Gives (λ leaf. leaf) result (unlink_in (seen running.old.tx) (route_of path.now)) }
+    ensures gives { JudgesAs (λ leaf. leaf) result (unlink_in (seen running.old.tx) (route_of path.now)) }
     ensures named { IfOk result (λ leaf. IsNamed leaf.name) }
-    ensures small { IfOk result (λ leaf. leaf.size ≤ 1048576) }
+    ensures small { IfOk result (λ leaf. leaf.size ≤ greatest_length) }
     ensures leaves { Leaves running.old.tx result running.new.tx }
     ensures age { Aged running.old running.new 0 }
 {
@@ -161,7 +140,7 @@ fn named_file<D: Device>(
     if is_root(pieces) {
         return Err(CoreFault::No(Errno::EPERM));
     }
-    let spot = walk_to_name(alloc, running, pieces)?;
+    let spot = walk(alloc, running, pieces)?;
     match node_at(alloc, running, spot.node)? {
         None => Err(CoreFault::No(Errno::ENOENT)),
         Some((node, it)) => {
@@ -179,22 +158,6 @@ fn named_file<D: Device>(
     }
 }
 
-/// Whether a directory has a name in it.
-pub(crate) fn has_names<D: Device>(
-    alloc: Global,
-    running: &mut Running<D>,
-    node: u64,
-) -> Result<bool, DeviceFault>
-    requires { age_of running.old < 2 ^ 63 - 2 ^ 39 }
-    ensures gives { IfOk result (λ some. some ≡ has_names (seen running.old.tx) node) }
-    ensures same { OnOk result (running.new.tx ≡ running.old.tx) }
-    ensures err { IfErr result (λ fault. GetFault running.old.tx fault running.new.tx.machine) }
-    ensures age { Aged running.old running.new 0 }
-{
-    let empty = is_empty(alloc, running, node)?;
-    Ok(!empty)
-}
-
 /// The directory whose name a path is, where that may be taken away.
 fn empty_directory<D: Device>(
     alloc: Global,
@@ -203,9 +166,9 @@ fn empty_directory<D: Device>(
 ) -> Result<Leaf, CoreFault>
     requires age { age_of running.old < 2 ^ 63 - 2 ^ 39 }
     requires named { All IsNamed path.now.pieces }
-    ensures gives { Gives (λ leaf. leaf) result (rmdir_in (seen running.old.tx) (route_of path.now)) }
+    ensures gives { JudgesAs (λ leaf. leaf) result (rmdir_in (seen running.old.tx) (route_of path.now)) }
     ensures named { IfOk result (λ leaf. IsNamed leaf.name) }
-    ensures small { IfOk result (λ leaf. leaf.size ≤ 1048576) }
+    ensures small { IfOk result (λ leaf. leaf.size ≤ greatest_length) }
     ensures leaves { Leaves running.old.tx result running.new.tx }
     ensures age { Aged running.old running.new 0 }
 {
@@ -219,14 +182,14 @@ fn empty_directory<D: Device>(
     if is_root(pieces) {
         return Err(CoreFault::No(Errno::EBUSY));
     }
-    let spot = walk_to_name(alloc, running, pieces)?;
+    let spot = walk(alloc, running, pieces)?;
     match node_at(alloc, running, spot.node)? {
         None => Err(CoreFault::No(Errno::ENOENT)),
         Some((node, it)) => {
             if it.kind != 1 {
                 return Err(CoreFault::No(Errno::ENOTDIR));
             }
-            if has_names(alloc, running, node)? {
+            if !is_empty(alloc, running, node)? {
                 return Err(CoreFault::No(Errno::ENOTEMPTY));
             }
             Ok(leaf_at(spot, node, 0))
@@ -253,7 +216,7 @@ fn put_orphan<D: Device>(
 
 /// The chunks that go with a node of so many bytes that loses its name.
 pub(crate) fn chunks_lost(size: u64, open_now: bool) -> u64
-    requires { size ≤ 1048576 }
+    requires { size ≤ greatest_length }
     ensures gives { result ≡ chunks_lost size open_now }
     ensures few { result ≤ 256 }
 {
@@ -269,9 +232,9 @@ pub(crate) fn lose_name<D: Device>(
     open_now: bool,
 ) -> Result<(), DeviceFault>
     requires age { age_of running.old < 2 ^ 63 - 2 ^ 39 }
-    requires size { size ≤ 1048576 }
+    requires size { size ≤ greatest_length }
     ensures loses { OnOk result (Loses running.old.tx node size open_now running.new.tx) }
-    ensures err { IfErr result (λ fault. Fails running.old.tx (1 + chunks_lost size open_now) fault running.new.tx.machine) }
+    ensures err { IfErr result (λ fault. FailsWithin running.old.tx (1 + chunks_lost size open_now) fault running.new.tx.machine) }
     ensures age { Aged running.old running.new 0 }
 {
     if open_now {
@@ -289,9 +252,9 @@ fn unname<D: Device>(
 ) -> Result<(), DeviceFault>
     requires age { age_of running.old < 2 ^ 63 - 2 ^ 39 }
     requires named { IsNamed leaf.now.name }
-    requires size { leaf.now.size ≤ 1048576 }
+    requires size { leaf.now.size ≤ greatest_length }
     ensures unnames { OnOk result (Unnames running.old.tx leaf.now open_now running.new.tx) }
-    ensures err { IfErr result (λ fault. Fails running.old.tx (2 + chunks_gone leaf.now open_now) fault running.new.tx.machine) }
+    ensures err { IfErr result (λ fault. FailsWithin running.old.tx (2 + chunks_gone leaf.now open_now) fault running.new.tx.machine) }
     ensures age { Aged running.old running.new 0 }
 {
     remove(alloc, running, leaf.parent, leaf.name.bytes())?;
@@ -307,7 +270,7 @@ fn take_name<D: Device>(
 ) -> Result<(), DeviceFault>
     requires age { age_of running.old < 2 ^ 63 - 2 ^ 39 }
     requires named { IsNamed leaf.now.name }
-    requires size { leaf.now.size ≤ 1048576 }
+    requires size { leaf.now.size ≤ greatest_length }
     ensures unlinks { OnOk result (Unlinks running.old.tx leaf.now open_now running.new.tx) }
     ensures err { IfErr result (λ fault. UnlinkFault running.old.tx leaf.now open_now fault running.new.tx.machine) }
     ensures age { Aged running.old running.new (2 ^ 16) }
@@ -326,8 +289,8 @@ fn size_to_go<D: Device>(
     node: u64,
 ) -> Result<u64, CoreFault>
     requires { age_of running.old < 2 ^ 63 - 2 ^ 39 }
-    ensures gives { Gives (λ n. n) result (release_at (inode_in (seen running.old.tx) node)) }
-    ensures small { IfOk result (λ n. n ≤ 1048576) }
+    ensures gives { JudgesAs (λ n. n) result (release_at (inode_in (seen running.old.tx) node)) }
+    ensures small { IfOk result (λ n. n ≤ greatest_length) }
     ensures leaves { Leaves running.old.tx result running.new.tx }
     ensures age { Aged running.old running.new 0 }
 {
@@ -350,7 +313,7 @@ fn remove_node<D: Device>(
     size: u64,
 ) -> Result<(), DeviceFault>
     requires age { age_of running.old < 2 ^ 63 - 2 ^ 39 }
-    requires size { size ≤ 1048576 }
+    requires size { size ≤ greatest_length }
     ensures releases { OnOk result (Releases running.old.tx node size running.new.tx) }
     ensures err { IfErr result (λ fault. ReleaseFault running.old.tx node size fault running.new.tx.machine) }
     ensures age { Aged running.old running.new (2 ^ 16) }

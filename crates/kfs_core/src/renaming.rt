@@ -3,21 +3,20 @@ ghost use Rattle.std.specs.Prelude.{◌≡◌, ◌==◌, ◌+◌, ◌<◌, ◌�
 ghost use Rattle.std.specs.List.{list_any};
 ghost use Rattle.std.specs.Option.{option_map};
 ghost use Rattle.kfs_objects.specs.Keys.{IsNamed};
+ghost use Rattle.kfs_model.specs.Tree.{greatest_length};
 ghost use Rattle.kfs_tx.specs.Tx.{age_of, Aged, seen};
-ghost use Rattle.kfs_file.specs.Contents.{Fails};
+ghost use Rattle.kfs_file.specs.Contents.{FailsWithin};
 ghost use Rattle.kfs_core.specs.Core.{tx_in};
-ghost use Rattle.kfs_core.specs.Gives.{Gives, Leaves};
+ghost use Rattle.kfs_core.specs.Returned.{JudgesAs, Leaves};
 ghost use Rattle.kfs_core.specs.Removing.{is_open_in};
 ghost use Rattle.kfs_core.specs.Renaming.{IsPlain, MoveFault, Moves, RenameDoes, Replaces, TellsReplaced, chunks_replaced, clear_in, is_same_spot, keys_replaced, move_at, needs_dir, onto_in, rename_in, replaced_node, with_moved};
 ghost use Rattle.kfs_core.specs.Spot.{route_of, where_of};
 
-use crate::dropping::GREATEST_LENGTH;
-use crate::removing::{Leaf, chunks_lost, has_names, is_open_in, lose_name, walk_to_name};
-use crate::room::chunks_for;
-use crate::walking::{Spot, node_at, parent};
+use crate::removing::{Leaf, chunks_lost, is_open_in, lose_name};
+use crate::walking::{Spot, node_at, parent, walk};
 use crate::{CoreFault, Kfs};
-use kfs_dir::{add, remove};
-use kfs_model::{ends_in_dots, is_root};
+use kfs_dir::{add, is_empty, remove};
+use kfs_model::{GREATEST_LENGTH, chunks_for, ends_in_dots, is_root};
 use kfs_objects::Inode;
 use kfs_path::{Errno, Path};
 use kfs_tx::Running;
@@ -66,7 +65,7 @@ impl<D: Device> Kfs<D> {
 
     /// Counts a node that was replaced no more, unless it is open.
     fn free_replaced(&mut self, replaced: &Option<Leaf>, is_open: &Names)
-        requires { IfSome replaced.now (λ leaf. leaf.size ≤ 1048576) }
+        requires { IfSome replaced.now (λ leaf. leaf.size ≤ greatest_length) }
         ensures { self.new ≡ record self.old { charge = self.old.charge - keys_replaced replaced.now (is_open_in is_open.now); chunks = self.old.chunks - chunks_replaced replaced.now (is_open_in is_open.now) } }
     {
         if let Some(leaf) = replaced {
@@ -156,7 +155,7 @@ fn clear<D: Device>(
     requires q { 0 < length q.above.items }
     requires named { IsNamed p.name }
     requires new_named { IsNamed q.name }
-    ensures gives { Gives (λ m. m) result (clear_in (seen running.old.tx) node is_dir (where_of p) (where_of q) (option_map (λ it. (it.0, it.1.kind, it.1.length)) there)) }
+    ensures gives { JudgesAs (λ m. m) result (clear_in (seen running.old.tx) node is_dir (where_of p) (where_of q) (option_map (λ it. (it.0, it.1.kind, it.1.length)) there)) }
     ensures plain { IfOk result (λ m. IfSome m IsPlain) }
     ensures leaves { Leaves running.old.tx result running.new.tx }
     ensures age { Aged running.old running.new 0 }
@@ -171,7 +170,7 @@ fn clear<D: Device>(
                 if !is_dir {
                     return Err(CoreFault::No(Errno::EISDIR));
                 }
-                if has_names(alloc, running, other)? {
+                if !is_empty(alloc, running, other)? {
                     return Err(CoreFault::No(Errno::ENOTEMPTY));
                 }
             } else if is_dir {
@@ -201,7 +200,7 @@ fn onto<D: Device>(
     requires q { 0 < length q.above.items }
     requires named { IsNamed p.name }
     requires new_named { IsNamed q.name }
-    ensures gives { Gives (λ m. m) result (onto_in (seen running.old.tx) (route_of to.now) (where_of p) node is_dir (where_of q) (option_map (λ it. (it.0, it.1.kind, it.1.length)) there)) }
+    ensures gives { JudgesAs (λ m. m) result (onto_in (seen running.old.tx) (route_of to.now) (where_of p) node is_dir (where_of q) (option_map (λ it. (it.0, it.1.kind, it.1.length)) there)) }
     ensures plain { IfOk result (λ m. IfSome m IsPlain) }
     ensures leaves { Leaves running.old.tx result running.new.tx }
     ensures age { Aged running.old running.new 0 }
@@ -241,7 +240,7 @@ fn plan_move<D: Device>(
     requires age { age_of running.old < 2 ^ 63 - 2 ^ 39 }
     requires named { All IsNamed from.now.pieces }
     requires new_named { All IsNamed to.now.pieces }
-    ensures gives { Gives (λ m. m) result (rename_in (seen running.old.tx) (route_of from.now) (route_of to.now)) }
+    ensures gives { JudgesAs (λ m. m) result (rename_in (seen running.old.tx) (route_of from.now) (route_of to.now)) }
     ensures plain { IfOk result (λ m. IfSome m IsPlain) }
     ensures leaves { Leaves running.old.tx result running.new.tx }
     ensures age { Aged running.old running.new 0 }
@@ -260,7 +259,7 @@ fn plan_move<D: Device>(
     if is_root(new) {
         return Err(CoreFault::No(Errno::EBUSY));
     }
-    let p = walk_to_name(alloc, running, old)?;
+    let p = walk(alloc, running, old)?;
     match node_at(alloc, running, p.node)? {
         None => Err(CoreFault::No(Errno::ENOENT)),
         Some((node, it)) => {
@@ -270,7 +269,7 @@ fn plan_move<D: Device>(
                     return Err(CoreFault::No(Errno::ENOTDIR));
                 }
             }
-            let q = walk_to_name(alloc, running, new)?;
+            let q = walk(alloc, running, new)?;
             let there = node_at(alloc, running, q.node)?;
             onto(alloc, running, to, node, is_dir, p, q, there)
         }
@@ -285,11 +284,11 @@ fn replace<D: Device>(
     is_open: &Names,
 ) -> Result<u64, DeviceFault>
     requires age { age_of running.old < 2 ^ 63 - 2 ^ 39 }
-    requires small { IfSome replaced.now (λ leaf. leaf.size ≤ 1048576) }
+    requires small { IfSome replaced.now (λ leaf. leaf.size ≤ greatest_length) }
     ensures replaces { OnOk result (Replaces running.old.tx replaced.now (is_open_in is_open.now) running.new.tx) }
     ensures chunks { IfOk result (λ n. n ≡ chunks_replaced replaced.now (is_open_in is_open.now)) }
     ensures few { IfOk result (λ n. n ≤ 256) }
-    ensures err { IfErr result (λ fault. Fails running.old.tx (1 + chunks_replaced replaced.now (is_open_in is_open.now)) fault running.new.tx.machine) }
+    ensures err { IfErr result (λ fault. FailsWithin running.old.tx (1 + chunks_replaced replaced.now (is_open_in is_open.now)) fault running.new.tx.machine) }
     ensures age { Aged running.old running.new 0 }
 {
     match replaced {
@@ -311,7 +310,7 @@ fn move_entry<D: Device>(
     requires age { age_of running.old < 2 ^ 63 - 2 ^ 39 }
     requires plain { IsPlain moving.now }
     ensures ok { OnOk result (running.new.tx ≡ with_moved running.old.tx moving.now) }
-    ensures err { IfErr result (λ fault. Fails running.old.tx 2 fault running.new.tx.machine) }
+    ensures err { IfErr result (λ fault. FailsWithin running.old.tx 2 fault running.new.tx.machine) }
     ensures age { Aged running.old running.new 0 }
 {
     remove(alloc, running, moving.parent, moving.name.bytes())?;

@@ -1,16 +1,17 @@
 // A file's new length.
 ghost use Rattle.std.specs.Prelude.{◌≡◌, ◌+◌, ◌<◌, ◌≤◌, ◌-◌, ◌^◌, IsTrue, OnOk, IfOk, IfErr};
+ghost use Rattle.kfs_model.specs.Tree.{greatest_length};
 ghost use Rattle.kfs_tx.specs.Tx.{age_of, Aged, seen};
-ghost use Rattle.kfs_file.specs.Contents as contents;
-ghost use Rattle.kfs_core.specs.Gives.{Gives, Leaves};
+ghost use Rattle.kfs_file.specs.Contents.{FailsWithin};
+ghost use Rattle.kfs_core.specs.Returned.{JudgesAs, Leaves};
 ghost use Rattle.kfs_core.specs.Resizing.{PutsLength, ResizeDoes, ResizeFault, Resizes, keys_cut, resize_in, resized_fits};
 
-use crate::dropping::GREATEST_LENGTH;
 use crate::files::length_of;
 use crate::making::put_inode;
-use crate::room::{Space, chunks_for};
+use crate::room::Space;
 use crate::{CoreFault, Kfs};
 use kfs_file::set_length;
+use kfs_model::{CHUNK, GREATEST_LENGTH, chunks_for};
 use kfs_objects::Inode;
 use kfs_path::Errno;
 use kfs_tx::Running;
@@ -40,8 +41,8 @@ impl<D: Device> Kfs<D> {
 
 /// Whether a length in place of another leaves room.
 fn resized_fits(space: &Space, old: u64, new: u64) -> bool
-    requires old { old ≤ 1048576 }
-    requires new { new ≤ 1048576 }
+    requires old { old ≤ greatest_length }
+    requires new { new ≤ greatest_length }
     requires charge { space.now.charge ≤ space.now.keys }
     requires chunks { space.now.chunks ≤ space.now.pages }
     ensures { result ≡ resized_fits space.now old new }
@@ -63,9 +64,9 @@ fn resizable<D: Device>(
     requires age { age_of running.old < 2 ^ 63 - 2 ^ 39 }
     requires charge { space.now.charge ≤ space.now.keys }
     requires chunks { space.now.chunks ≤ space.now.pages }
-    ensures gives { Gives (λ n. n) result (resize_in (seen running.old.tx) space.now node length) }
-    ensures small { IfOk result (λ n. n ≤ 1048576) }
-    ensures short { OnOk result (length ≤ 1048576) }
+    ensures gives { JudgesAs (λ n. n) result (resize_in (seen running.old.tx) space.now node length) }
+    ensures small { IfOk result (λ n. n ≤ greatest_length) }
+    ensures short { OnOk result (length ≤ greatest_length) }
     ensures fits { IfOk result (λ n. IsTrue (resized_fits space.now n length)) }
     ensures leaves { Leaves running.old.tx result running.new.tx }
     ensures age { Aged running.old running.new 0 }
@@ -82,12 +83,12 @@ fn resizable<D: Device>(
 
 /// The keys of chunks that change, from a length to another.
 fn keys_cut(old: u64, new: u64) -> u64
-    requires old { old ≤ 1048576 }
+    requires old { old ≤ greatest_length }
     ensures gives { result ≡ keys_cut old new }
     ensures few { result ≤ 256 }
 {
     if new < old {
-        (old + 4095) / 4096 - new / 4096
+        chunks_for(old) - new / CHUNK
     } else {
         0
     }
@@ -102,10 +103,10 @@ fn put_length<D: Device>(
     length: u64,
 ) -> Result<(), DeviceFault>
     requires age { age_of running.old < 2 ^ 63 - 2 ^ 39 }
-    requires size { size ≤ 1048576 }
-    requires length { length ≤ 1048576 }
+    requires size { size ≤ greatest_length }
+    requires length { length ≤ greatest_length }
     ensures puts { OnOk result (PutsLength running.old.tx node size length running.new.tx) }
-    ensures err { IfErr result (λ fault. contents.Fails running.old.tx (keys_cut size length) fault running.new.tx.machine) }
+    ensures err { IfErr result (λ fault. FailsWithin running.old.tx (keys_cut size length) fault running.new.tx.machine) }
     ensures age { Aged running.old running.new (2 ^ 16) }
 {
     if length < size {
@@ -123,8 +124,8 @@ fn resize<D: Device>(
     length: u64,
 ) -> Result<(), DeviceFault>
     requires age { age_of running.old < 2 ^ 63 - 2 ^ 39 }
-    requires size { size ≤ 1048576 }
-    requires length { length ≤ 1048576 }
+    requires size { size ≤ greatest_length }
+    requires length { length ≤ greatest_length }
     ensures resizes { OnOk result (Resizes running.old.tx node size length running.new.tx) }
     ensures err { IfErr result (λ fault. ResizeFault running.old.tx node size length fault running.new.tx.machine) }
     ensures age { Aged running.old running.new (2 ^ 17) }

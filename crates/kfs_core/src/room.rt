@@ -1,6 +1,9 @@
 // The room for a file's bytes.
 ghost use Rattle.std.specs.Prelude.{◌≡◌, ◌≤◌};
-ghost use Rattle.kfs_core.specs.Room.{chunks_for, fits_in};
+ghost use Rattle.kfs_model.specs.Tree.{greatest_length};
+ghost use Rattle.kfs_core.specs.Room.{fits_in};
+
+use kfs_model::{CHUNK, MOST_CHUNKS, chunks_for};
 
 /// The keys and the pages that there are, and how many are taken.
 #[derive(Debug, Clone, Copy)]
@@ -11,23 +14,9 @@ pub struct Space {
     pub chunks: u64,
 }
 
-/// The bytes of a chunk.
-const CHUNK: u64 = 4096;
-
-/// The most chunks of a file.
-const MOST_CHUNKS: u64 = 256;
-
-/// The chunks of a file of so many bytes.
-pub fn chunks_for(size: u64) -> u64
-    requires { size ≤ 1048576 }
-    ensures { result ≡ chunks_for size }
-{
-    (size + 4095) / CHUNK
-}
-
 /// Of so many bytes for a file of so many, how many fit from an offset on.
 pub fn fits(space: &Space, size: u64, offset: u64, count: u64) -> u64
-    requires size { size ≤ 1048576 }
+    requires size { size ≤ greatest_length }
     requires charge { space.now.charge ≤ space.now.keys }
     requires chunks { space.now.chunks ≤ space.now.pages }
     ensures { result ≡ fits_in space.now size offset count }

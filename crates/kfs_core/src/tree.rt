@@ -5,7 +5,7 @@ ghost use Rattle.kv_device.specs.Objects.{pair_of};
 ghost use Rattle.kfs_tx.specs.Tx.{age_of, Aged, seen, GetFault};
 ghost use Rattle.kfs_core.specs.Core.{tx_in, Stays};
 ghost use Rattle.kfs_core.specs.Flat.{inode_in};
-ghost use Rattle.kfs_core.specs.Gives.{Leaves};
+ghost use Rattle.kfs_core.specs.Returned.{Leaves};
 ghost use Rattle.kfs_core.specs.Listing.{IsOfDevice, ListsAll, at_of, item_at, pairs_below, place_below, right_below};
 
 use crate::walking::inode;

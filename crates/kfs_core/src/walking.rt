@@ -1,9 +1,10 @@
 // Syntax and the walk.
-ghost use Rattle.std.specs.Prelude.{◌≡◌, ◌<◌, ◌≤◌, ◌-◌, ◌^◌, ℕ, List, [], All, length, IfOk, OnOk, IfErr, Ok};
+ghost use Rattle.std.specs.Prelude.{◌≡◌, ◌<◌, ◌≤◌, ◌-◌, ◌^◌, ℕ, List, [], false, All, length, IfOk, OnOk, IfErr, Ok};
 ghost use Rattle.std.specs.Option.{option_map};
 ghost use Rattle.kfs_objects.specs.Keys.{IsNamed};
+ghost use Rattle.kfs_model.specs.Step.{ends_in_dots, is_root};
 ghost use Rattle.kfs_tx.specs.Tx.{age_of, Aged, seen, GetFault};
-ghost use Rattle.kfs_core.specs.Gives.{Gives, Leaves};
+ghost use Rattle.kfs_core.specs.Returned.{JudgesAs, Leaves};
 ghost use Rattle.kfs_core.specs.Flat.{inode_in, enter_at, enter_in, further_in, walk_in, found_in, at_root};
 
 use crate::CoreFault;
@@ -62,7 +63,7 @@ fn enter<D: Device>(
     node: Option<u64>,
 ) -> Result<u64, CoreFault>
     requires { age_of running.old < 2 ^ 63 - 2 ^ 39 }
-    ensures gives { Gives (λ n. n) result (enter_in (seen running.old.tx) node) }
+    ensures gives { JudgesAs (λ n. n) result (enter_in (seen running.old.tx) node) }
     ensures leaves { Leaves running.old.tx result running.new.tx }
     ensures age { Aged running.old running.new 0 }
 {
@@ -121,7 +122,7 @@ fn go_on<D: Device>(
 }
 
 /// Follows the pieces from the root to where the last one is named. Errors: ENOENT and ENOTDIR where a piece
-/// before it names nothing or no directory.
+/// before it names nothing or no directory. Where the last piece is a name, it was gone down.
 pub fn walk<D: Device>(
     alloc: Global,
     running: &mut Running<D>,
@@ -129,7 +130,9 @@ pub fn walk<D: Device>(
 ) -> Result<Spot, CoreFault>
     requires age { age_of running.old < 2 ^ 63 - 2 ^ 39 }
     requires named { All IsNamed pieces.now }
-    ensures gives { Gives where_of result (walk_in (seen running.old.tx) at_root pieces.now) }
+    ensures gives { JudgesAs where_of result (walk_in (seen running.old.tx) at_root pieces.now) }
+    ensures named { ends_in_dots pieces.now ≡ false → is_root pieces.now ≡ false → IfOk result (λ spot. IsNamed spot.name) }
+    ensures below { ends_in_dots pieces.now ≡ false → is_root pieces.now ≡ false → IfOk result (λ spot. 0 < length spot.above.items) }
     ensures leaves { Leaves running.old.tx result running.new.tx }
     ensures age { Aged running.old running.new 0 }
 {

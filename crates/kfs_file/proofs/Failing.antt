@@ -6,7 +6,7 @@ use Rattle.kv_device.specs.Machine.{Machine, Transactions}
 use Rattle.kfs_objects.specs.Keys.{be64, be32, chunk_key}
 use Rattle.kfs_tx.specs.Tx.{Tx, IsReady, changed_keys, Caused, CausedAlone, Fallen, HasCause}
 use Rattle.kfs_tx.proofs.Falling.{get_falls, put_falls}
-use Rattle.kfs_file.specs.Contents.{Fails, PieceFault, CutFault, ChangesAtMost, pending_of}
+use Rattle.kfs_file.specs.Contents.{FailsWithin, PieceFault, CutFault, ChangesAtMost, pending_of}
 
 -- a cause alone is a cause
 pub caused_alone : (m : Machine) (fault : DeviceFault) (new : Machine) → CausedAlone m fault new → Caused m fault new
@@ -57,7 +57,7 @@ small_key value node chunk = small (nat_lt 128 (length value))
 
 -- a fault in the middle
 pub fails_between : (old mid : Tx) (node chunk start keys : ℕ) (given : List ℕ) (fault : DeviceFault) (new : Machine) → mid ≡ pending_of mid old → (IsReady old → IsReady mid) → (IsReady old → changed_keys mid + 1 ≤ changed_keys old + keys)
-    → PieceFault mid node chunk start given fault new → Fails old keys fault new
+    → PieceFault mid node chunk start given fault new → FailsWithin old keys fault new
 fails_between old mid node chunk start keys given fault new same ready few h = record {
   cause = cause_before old.machine mid.machine.pending fault new (subst (λ (r : Tx). Caused r.machine fault new) same (elim h [ inl get ↦ caused_alone mid.machine fault new get.1 | inr put ↦ put.1 ]));
   fallen = λ is_ready room. fallen_before old.machine mid.machine.pending fault new (subst (λ (r : Tx). Fallen r.machine fault r.machine.stable new) same (elim h [
@@ -67,18 +67,18 @@ fails_between old mid node chunk start keys given fault new same ready few h = r
 }
 
 -- with more keys to spare
-pub fails_weaker : (r : Tx) (k j : ℕ) (fault : DeviceFault) (new : Machine) → k ≤ j → Fails r k fault new → Fails r j fault new
+pub fails_weaker : (r : Tx) (k j : ℕ) (fault : DeviceFault) (new : Machine) → k ≤ j → FailsWithin r k fault new → FailsWithin r j fault new
 fails_weaker r k j fault new le h = record { cause = h.cause; fallen = λ ready room. h.fallen ready (omega arith) }
 
 -- a fault in what follows
-pub fails_after : (old mid : Tx) (j k all : ℕ) (fault : DeviceFault) (new : Machine) → mid ≡ pending_of mid old → (IsReady old → IsReady mid) → ChangesAtMost old j mid → j + k ≤ all → Fails mid k fault new → Fails old all fault new
+pub fails_after : (old mid : Tx) (j k all : ℕ) (fault : DeviceFault) (new : Machine) → mid ≡ pending_of mid old → (IsReady old → IsReady mid) → ChangesAtMost old j mid → j + k ≤ all → FailsWithin mid k fault new → FailsWithin old all fault new
 fails_after old mid j k all fault new same ready few le h = record {
   cause = cause_before old.machine mid.machine.pending fault new (subst (λ (r : Tx). Caused r.machine fault new) same h.cause);
   fallen = λ is_ready room. fallen_before old.machine mid.machine.pending fault new (subst (λ (r : Tx). Fallen r.machine fault r.machine.stable new) same (let so_far = few is_ready in h.fallen (ready is_ready) (omega arith)));
 }
 
 -- a fault where an object is cut
-pub cut_fails : (r : Tx) (node chunk : ℕ) (count : ℕ) (fault : DeviceFault) (new : Machine) → CutFault r node chunk count fault new → Fails r 1 fault new
+pub cut_fails : (r : Tx) (node chunk : ℕ) (count : ℕ) (fault : DeviceFault) (new : Machine) → CutFault r node chunk count fault new → FailsWithin r 1 fault new
 cut_fails r node chunk count fault new h = record {
   cause = elim h [ inl get ↦ caused_alone r.machine fault new get.1 | inr put ↦ put.1 ];
   fallen = λ ready room. elim h [

@@ -11,7 +11,7 @@ use Rattle.kfs_tx.specs.Tx.{Tx, changed_keys, deleted_in, seen, Caused, Fallen}
 use Rattle.kfs_tx.proofs.Falling.{delete_falls, only_memory_falls}
 use Rattle.kfs_tx.proofs.Seeing.{ready_deleted, seen_deleted, keys_deleted}
 use Rattle.kfs_shows.proofs.Lookups.{decide_bytes, tie_test, apart_test, same_bytes}
-use Rattle.kfs_file.specs.Contents.{RemovesChunks, RemoveFault, Fails, ChangesAtMost}
+use Rattle.kfs_file.specs.Contents.{RemovesChunks, RemoveFault, FailsWithin, ChangesAtMost}
 use Rattle.kfs_file.proofs.Failing.{cause_before, fallen_before}
 
 removed_here : (m : Objects) (k : List ℕ) → objects.get (objects.remove m k) k ≡ None
@@ -50,7 +50,7 @@ keys_more old mid new node from k before least is few = λ ready.
     omega arith
 
 -- a fault in the middle
-pub removal_fails : (old mid : Tx) (node from k keys : ℕ) (fault : DeviceFault) (new : Machine) → RemovesChunks old node from k mid → ChangesAtMost old (k - from) mid → k - from < keys → RemoveFault mid (chunk_key node k) fault new → Fails old keys fault new
+pub removal_fails : (old mid : Tx) (node from k keys : ℕ) (fault : DeviceFault) (new : Machine) → RemovesChunks old node from k mid → ChangesAtMost old (k - from) mid → k - from < keys → RemoveFault mid (chunk_key node k) fault new → FailsWithin old keys fault new
 removal_fails old mid node from k keys fault new before few lt h = record {
   cause = cause_before old.machine mid.machine.pending fault new (subst (λ (r : Tx). Caused r.machine fault new) before.same h.1);
   fallen = λ ready room. fallen_before old.machine mid.machine.pending fault new (subst (λ (r : Tx). Fallen r.machine fault r.machine.stable new) before.same (elim (h.0) [

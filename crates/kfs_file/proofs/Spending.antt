@@ -4,6 +4,7 @@ use Rattle.kfs_tx.specs.Tx.{Tx, RunningState, Aged, IsReady, age_of, changed_key
 use Rattle.kfs_tx.proofs.Seeing.{keys_put}
 use Rattle.kfs_objects.specs.Keys.{chunk_key}
 use Rattle.kfs_tx.specs.Tx.{seen}
+use Rattle.kfs_model.specs.Tree.{greatest_length}
 use Rattle.kfs_file.specs.Contents.{touched, with_piece, piece_in, rewritten}
 
 -- so much for each chunk, d of n bytes being written; what is left is to spare
@@ -37,6 +38,10 @@ spent_on old mid new unit p n d count before lt least one =
 pub one_key : (mid new : Tx) (node c s : ℕ) (ys : List ℕ) → new ≡ with_piece mid node c s ys → IsReady mid → changed_keys new ≤ changed_keys mid + 1
 one_key mid new node c s ys is ready = subst (λ (r : Tx). changed_keys r ≤ changed_keys mid + 1) (sym is) (keys_put mid (chunk_key node c) (rewritten (piece_in (seen mid) node c) s ys) ready)
 
+-- both ages after two steps that write nothing
+pub aged_on : (old mid new : RunningState) → Aged old mid 0 → Aged mid new 0 → Aged old new 0
+aged_on old mid new first then = record { device = record { later = omega (arith, first.device.later, then.device.later); bounded = omega (arith, first.device.bounded, then.device.bounded) }; whole = record { later = omega (arith, first.whole.later, then.whole.later); bounded = omega (arith, first.whole.bounded, then.whole.bounded) } }
+
 -- both ages
 pub record AgesSpent (old now : RunningState) (p n d : ℕ) : Type 0 where
   pub device_later : old.device_age ≤ now.device_age
@@ -64,7 +69,7 @@ pub ages_end : (old new : RunningState) (p n d : ℕ) → AgesSpent old new p n 
 ages_end old new p n d spent = record { device = record { later = spent.device_later; bounded = spent.device.most }; whole = record { later = spent.whole_later; bounded = spent.whole.most } }
 
 -- the age in the middle is still below the device's bound
-pub still_young : (old mid : RunningState) (p n d : ℕ) → AgesSpent old mid p n d → p + n ≤ 2 ^ 20 → age_of old < 2 ^ 63 - 2 ^ 39 → age_of mid < 2 ^ 63 - 2 ^ 38
+pub still_young : (old mid : RunningState) (p n d : ℕ) → AgesSpent old mid p n d → p + n ≤ greatest_length → age_of old < 2 ^ 63 - 2 ^ 39 → age_of mid < 2 ^ 63 - 2 ^ 38
 still_young old mid p n d spent short young = (let most = spent.whole.most in omega (arith, most))
 
 -- a key is to spare for the next piece

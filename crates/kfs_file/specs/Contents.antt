@@ -8,7 +8,7 @@ use Rattle.kv_device.specs.Calls.{DeleteFault}
 use Rattle.kv_device.specs.Objects.{Objects}
 use Rattle.kv_device.specs.Machine.{Machine}
 use Rattle.kfs_objects.specs.Keys.{chunk_key}
-use Rattle.kfs_model.specs.Tree.{padded, written, resized, greatest_length}
+use Rattle.kfs_model.specs.Tree.{padded, written, resized, greatest_length, chunk_bytes}
 use Rattle.kfs_shows.specs.Shows.{IsPiece}
 use Rattle.kfs_tx.specs.Tx.{Tx, IsReady, seen, put_in, changed_keys, PutFault, GetFault, Caused, Fallen}
 
@@ -22,7 +22,7 @@ piece_in m node chunk = unwrap_or (objects.get m (chunk_key node chunk)) []
 
 -- a chunk's bytes with the given ones at a place, which are all of them where they fill it
 abbrev pub rewritten : List ℕ → ℕ → List ℕ → List ℕ
-rewritten old start given = if length given == 4096 then given else written old start given
+rewritten old start given = if length given == chunk_bytes then given else written old start given
 
 -- some bytes of one chunk
 abbrev pub with_piece : Tx → ℕ → ℕ → ℕ → List ℕ → Tx
@@ -33,7 +33,7 @@ PieceFault r node chunk start given fault new = GetFault r fault new ⊎ PutFaul
 
 -- the number of chunks that so many bytes from a place on lie in
 abbrev pub touched : ℕ → ℕ → ℕ
-touched p n = (p + n + 4095) / 4096 - p / 4096
+touched p n = (p + n + 4095) / chunk_bytes - p / chunk_bytes
 
 -- only the transaction's changes are others
 abbrev pub pending_of : Tx → Tx → Tx
@@ -51,7 +51,7 @@ abbrev pub ChangesAtMost : Tx → ℕ → Tx → Type 0
 ChangesAtMost old most new = IsReady old → changed_keys new ≤ changed_keys old + most
 
 -- a fault's cause, and that with so many keys to spare it comes from outside and leaves what stands
-pub record Fails (old : Tx) (keys : ℕ) (fault : DeviceFault) (new : Machine) : Type 0 where
+pub record FailsWithin (old : Tx) (keys : ℕ) (fault : DeviceFault) (new : Machine) : Type 0 where
   pub cause : Caused old.machine fault new
   pub fallen : IsReady old → changed_keys old + keys ≤ 640 → Fallen old.machine fault old.machine.stable new
 
@@ -85,8 +85,8 @@ CutFault r node chunk count fault new = GetFault r fault new ⊎ PutFault r (chu
 -- the objects that begin before a new length are those of a file of so many bytes, and no other object differs
 pub record CutsFile (old : Tx) (node n : ℕ) (new : Tx) : Type 0 where
   pub ready : IsReady old → IsReady new
-  pub pieces : (bytes : List ℕ) (chunk : ℕ) → IsReady old → node < 2 ^ 64 → chunk < 2 ^ 32 → 4096 * chunk < n → IsPiece (objects.get (seen old) (chunk_key node chunk)) bytes chunk → IsPiece (objects.get (seen new) (chunk_key node chunk)) (resized bytes n) chunk
-  pub others : (q : List ℕ) → IsReady old → ((chunk : ℕ) → 4096 * chunk < n → q ≢ chunk_key node chunk) → objects.get (seen new) q ≡ objects.get (seen old) q
+  pub pieces : (bytes : List ℕ) (chunk : ℕ) → IsReady old → node < 2 ^ 64 → chunk < 2 ^ 32 → chunk_bytes * chunk < n → IsPiece (objects.get (seen old) (chunk_key node chunk)) bytes chunk → IsPiece (objects.get (seen new) (chunk_key node chunk)) (resized bytes n) chunk
+  pub others : (q : List ℕ) → IsReady old → ((chunk : ℕ) → chunk_bytes * chunk < n → q ≢ chunk_key node chunk) → objects.get (seen new) q ≡ objects.get (seen old) q
   pub same : new ≡ pending_of new old
 
 -- the file's bytes are cut short or followed by zeros, and no other object differs

@@ -1,7 +1,9 @@
 ghost use Rattle.std.specs.Prelude.{◌≡◌, ◌<◌, ◌≤◌, ◌+◌, ◌-◌, ◌^◌, ◌++◌, IfOk, OnOk, IfErr};
+ghost use Rattle.kfs_model.specs.Tree.{chunk_bytes, greatest_length};
 ghost use Rattle.kfs_tx.specs.Tx.{Aged, GetFault, age_of, seen};
 ghost use Rattle.kfs_file.specs.Contents.{ReadsFile, piece_at, piece_in};
 
+use kfs_model::CHUNK;
 use kfs_objects::chunk_key;
 use kfs_tx::Running;
 use kv_base::{Memory, Text};
@@ -16,7 +18,7 @@ fn append_piece(
     start: usize,
     count: usize,
 ) -> Result<(), Memory>
-    requires { start + count ≤ 4096 }
+    requires { start + count ≤ chunk_bytes }
     ensures { OnOk result (text.new ≡ text.old ++ piece_at piece.now start count) }
 {
     let mut bytes = Vec::from_slice(alloc, piece)?;
@@ -38,7 +40,7 @@ fn read_piece<D: Device>(
     text: &mut Text,
 ) -> Result<(), DeviceFault>
     requires age { age_of running.old < 2 ^ 63 - 2 ^ 38 }
-    requires fits { start + count ≤ 4096 }
+    requires fits { start + count ≤ chunk_bytes }
     ensures ok { OnOk result (text.new ≡ text.old ++ piece_at (piece_in (seen running.old.tx) node chunk) start count) }
     ensures same { OnOk result (running.new.tx ≡ running.old.tx) }
     ensures err { IfErr result (λ fault. GetFault running.old.tx fault running.new.tx.machine) }
@@ -63,7 +65,7 @@ pub fn read_at<D: Device>(
     count: u32,
 ) -> Result<Text, DeviceFault>
     requires age { age_of running.old < 2 ^ 63 - 2 ^ 39 }
-    requires size { size ≤ 2 ^ 20 }
+    requires size { size ≤ greatest_length }
     ensures reads { IfOk result (λ text. ReadsFile (seen running.old.tx) node size offset count text) }
     ensures same { OnOk result (running.new.tx ≡ running.old.tx) }
     ensures err { IfErr result (λ fault. GetFault running.old.tx fault running.new.tx.machine) }
@@ -73,9 +75,9 @@ pub fn read_at<D: Device>(
     let mut text = Text::new(alloc, &[])?;
     let mut place = offset;
     while place < end {
-        let chunk = (place / 4096) as u32;
-        let start = place % 4096;
-        let some = (4096 - start).min(end - place);
+        let chunk = (place / CHUNK) as u32;
+        let start = place % CHUNK;
+        let some = (CHUNK - start).min(end - place);
         read_piece(
             alloc,
             running,

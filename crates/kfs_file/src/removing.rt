@@ -1,9 +1,11 @@
 ghost use Rattle.std.specs.Prelude.{◌≡◌, ◌<◌, ◌≤◌, ◌+◌, ◌-◌, ◌/◌, ◌^◌, None, IfErr, OnOk};
 ghost use Rattle.kv_device.specs.Calls.{delete_refusal};
 ghost use Rattle.kfs_objects.specs.Keys.{chunk_key};
+ghost use Rattle.kfs_model.specs.Tree.{chunks_for, greatest_length};
 ghost use Rattle.kfs_tx.specs.Tx.{Aged, age_of, deleted_in};
-ghost use Rattle.kfs_file.specs.Contents.{ChangesAtMost, Fails, RemoveFault, RemovesChunks};
+ghost use Rattle.kfs_file.specs.Contents.{ChangesAtMost, FailsWithin, RemoveFault, RemovesChunks};
 
+use kfs_model::chunks_for;
 use kfs_objects::chunk_key;
 use kfs_tx::Running;
 use kv_device::{Device, DeviceFault};
@@ -37,7 +39,7 @@ pub(crate) fn remove_chunks<D: Device>(
     requires order { from ≤ to }
     ensures removes { OnOk result (RemovesChunks running.old.tx node from to running.new.tx) }
     ensures keys { OnOk result (ChangesAtMost running.old.tx (to - from) running.new.tx) }
-    ensures err { IfErr result (λ fault. Fails running.old.tx (to - from) fault running.new.tx.machine) }
+    ensures err { IfErr result (λ fault. FailsWithin running.old.tx (to - from) fault running.new.tx.machine) }
     ensures age { Aged running.old running.new 0 }
 {
     for chunk in from..to {
@@ -55,12 +57,12 @@ pub fn remove<D: Device>(
     size: u64,
 ) -> Result<(), DeviceFault>
     requires age { age_of running.old < 2 ^ 63 - 2 ^ 39 }
-    requires size { size ≤ 2 ^ 20 }
-    ensures removes { OnOk result (RemovesChunks running.old.tx node 0 ((size + 4095) / 4096) running.new.tx) }
-    ensures keys { OnOk result (ChangesAtMost running.old.tx ((size + 4095) / 4096) running.new.tx) }
-    ensures err { IfErr result (λ fault. Fails running.old.tx ((size + 4095) / 4096) fault running.new.tx.machine) }
+    requires size { size ≤ greatest_length }
+    ensures removes { OnOk result (RemovesChunks running.old.tx node 0 (chunks_for size) running.new.tx) }
+    ensures keys { OnOk result (ChangesAtMost running.old.tx (chunks_for size) running.new.tx) }
+    ensures err { IfErr result (λ fault. FailsWithin running.old.tx (chunks_for size) fault running.new.tx.machine) }
     ensures age { Aged running.old running.new 0 }
 {
-    let chunks = ((size + 4095) / 4096) as u32;
+    let chunks = chunks_for(size) as u32;
     remove_chunks(alloc, running, node, 0, chunks)
 }

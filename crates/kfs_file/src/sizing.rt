@@ -1,9 +1,11 @@
 ghost use Rattle.std.specs.Prelude.{◌≡◌, ◌<◌, ◌≤◌, ◌+◌, ◌-◌, ◌/◌, ◌%◌, ◌^◌, IfErr, OnOk};
+ghost use Rattle.kfs_model.specs.Tree.{chunk_bytes, chunks_for, greatest_length};
 ghost use Rattle.kfs_tx.specs.Tx.{Aged, age_of};
-ghost use Rattle.kfs_file.specs.Contents.{ChangesAtMost, CutFault, CutsFile, Fails, ResizesFile, touched, with_cut};
+ghost use Rattle.kfs_file.specs.Contents.{ChangesAtMost, CutFault, CutsFile, FailsWithin, ResizesFile, touched, with_cut};
 
 use crate::piece::value_of;
 use crate::removing::remove_chunks;
+use kfs_model::{CHUNK, chunks_for};
 use kfs_objects::chunk_key;
 use kfs_tx::Running;
 use kv_device::{Device, DeviceFault};
@@ -18,7 +20,7 @@ fn cut_piece<D: Device>(
     count: usize,
 ) -> Result<(), DeviceFault>
     requires age { age_of running.old < 2 ^ 63 - 2 ^ 38 }
-    requires count { count ≤ 4096 }
+    requires count { count ≤ chunk_bytes }
     ensures ok { OnOk result (running.new.tx ≡ with_cut running.old.tx node chunk count) }
     ensures err { IfErr result (λ fault. CutFault running.old.tx node chunk count fault running.new.tx.machine) }
     ensures age { Aged running.old running.new (2 ^ 16) }
@@ -43,17 +45,17 @@ fn cut_end<D: Device>(
     size: u64,
 ) -> Result<(), DeviceFault>
     requires age { age_of running.old < 2 ^ 63 - 2 ^ 38 }
-    requires size { size ≤ 2 ^ 20 }
+    requires size { size ≤ greatest_length }
     ensures cuts { OnOk result (CutsFile running.old.tx node size running.new.tx) }
-    ensures keys { OnOk result (ChangesAtMost running.old.tx ((size % 4096 + 4095) / 4096) running.new.tx) }
-    ensures err { IfErr result (λ fault. Fails running.old.tx 1 fault running.new.tx.machine) }
+    ensures keys { OnOk result (ChangesAtMost running.old.tx (chunks_for (size % chunk_bytes)) running.new.tx) }
+    ensures err { IfErr result (λ fault. FailsWithin running.old.tx 1 fault running.new.tx.machine) }
     ensures age { Aged running.old running.new (2 ^ 16) }
 {
-    let rest = size % 4096;
+    let rest = size % CHUNK;
     if rest == 0 {
         return Ok(());
     }
-    cut_piece(alloc, running, node, (size / 4096) as u32, rest as usize)
+    cut_piece(alloc, running, node, (size / CHUNK) as u32, rest as usize)
 }
 
 /// Gives a file of so many bytes another length: it is cut short, or zeros follow. No chunk object
@@ -66,18 +68,18 @@ pub fn set_length<D: Device>(
     new: u64,
 ) -> Result<(), DeviceFault>
     requires age { age_of running.old < 2 ^ 63 - 2 ^ 39 }
-    requires old { old ≤ 2 ^ 20 }
-    requires new { new ≤ 2 ^ 20 }
+    requires old { old ≤ greatest_length }
+    requires new { new ≤ greatest_length }
     ensures resizes { OnOk result (ResizesFile running.old.tx node old new running.new.tx) }
     ensures keys { OnOk result (ChangesAtMost running.old.tx (touched new (old - new)) running.new.tx) }
-    ensures err { IfErr result (λ fault. Fails running.old.tx (touched new (old - new)) fault running.new.tx.machine) }
+    ensures err { IfErr result (λ fault. FailsWithin running.old.tx (touched new (old - new)) fault running.new.tx.machine) }
     ensures age { Aged running.old running.new (2 ^ 16) }
 {
     if old <= new {
         return Ok(());
     }
     cut_end(alloc, running, node, new)?;
-    let from = ((new + 4095) / 4096) as u32;
-    let to = ((old + 4095) / 4096) as u32;
+    let from = chunks_for(new) as u32;
+    let to = chunks_for(old) as u32;
     remove_chunks(alloc, running, node, from, to)
 }

@@ -5,16 +5,15 @@ ghost use Rattle.std.specs.BTreeMap.{get};
 ghost use Rattle.std.specs.FinMap as objects;
 ghost use Rattle.kv_device.specs.Objects.{Objects};
 ghost use Rattle.kfs_damages.specs.Damages.{IsBadInode, next_in};
+ghost use Rattle.kfs_model.specs.Tree.{greatest_keys};
 ghost use Rattle.kfs_judge.specs.Rows.{AreRows};
 ghost use Rattle.kfs_judge.specs.Judged.{AreShort, FoundLeast, IsShortRow};
 ghost use Rattle.kfs_judge.specs.Tables.{AreTables, IsLeastOf, lower, inode_at, is_dir, is_bad_inode, is_bad_name, is_lost, is_bad_chunk, bad_inode, bad_entry, bad_chunk, bad_orphan, keys_for, chunks_for, taken_by};
 
 use crate::row::Row;
 use crate::tables::Tables;
+use kfs_model::{GREATEST_LENGTH, chunks_for};
 use kfs_objects::Inode;
-
-/// The most bytes of a file.
-const GREATEST_LENGTH: u64 = 1 << 20;
 
 /// The lower of two nodes.
 fn lower(one: Option<u64>, other: Option<u64>) -> Option<u64>
@@ -241,7 +240,7 @@ fn taken_by(tables: &Tables, row: &Row) -> Charge
             if tables.orphans.contains(node) {
                 return none;
             }
-            let chunks = (it.length + 4095) / 4096;
+            let chunks = chunks_for(it.length);
             Charge {
                 keys: 2 + chunks,
                 chunks,
@@ -254,7 +253,7 @@ fn taken_by(tables: &Tables, row: &Row) -> Charge
 /// What all nodes take that have names.
 pub fn taken(tables: &Tables, rows: &[Row]) -> Charge
     requires short { AreShort rows.now }
-    requires few { length rows.now ≤ 68544 }
+    requires few { length rows.now ≤ greatest_keys }
     ensures keys { result.keys ≡ 1 + sum_by (taken_by keys_for tables.now) rows.now }
     ensures chunks { result.chunks ≡ sum_by (taken_by chunks_for tables.now) rows.now }
 {

@@ -11,7 +11,7 @@ use Rattle.std.proofs.lemmas.List.Sums.{sum_by-cons}
 use Rattle.std.proofs.lemmas.Option.{same_Some}
 use Rattle.kfs_model.specs.declared.Node.{Node}
 use Rattle.kfs_model.specs.declared.Node.TheVariants.{File}
-use Rattle.kfs_model.specs.Tree.{Tree, Limits, charge, chunks, chunks_of, with_node, written, fits_at, fits}
+use Rattle.kfs_model.specs.Tree.{Tree, Limits, charge, chunks, chunks_for, chunks_of, with_node, written, fits_at, fits}
 use Rattle.kfs_model.proofs.Written.{length_written}
 use Rattle.kfs_model.proofs.Tests.{lower, first_of, second_of}
 
@@ -63,9 +63,6 @@ replaced f n old new (x ∷ es) h e = by (nat_cmp n x.0) refl (replaced f n old 
         let a = sum_by-cons f x (put nat_cmp n new es) in
         let b = sum_by-cons f x es in
         ((let s : sum_by f (x ∷ put nat_cmp n new es) + f (n, old) ≡ sum_by f (x ∷ es) + f (n, new) = omega arith in s), ap (λ m. suc m) t1)
-
-abbrev pub chunks_for : ℕ → ℕ
-chunks_for size = (size + 4095) / 4096
 
 -- the charge after a write that leaves so many bytes
 pub charge_written : (t : Tree) (n : ℕ) (b c : List ℕ) → T (is_sorted nat_cmp t.nodes) → find nat_cmp n t.nodes ≡ Some (File b) → charge (with_node t n (File c)) + chunks_for (length b) ≡ charge t + chunks_for (length c)

@@ -127,10 +127,18 @@ pub record IsTree (t : Tree) : Type 0 where
   pub sorted_names : T (is_sorted place_cmp t.names)
   pub sorted_nodes : T (is_sorted nat_cmp t.nodes)
 
--- the chunks of 4,096 bytes that a node takes
+-- the bytes of a chunk
+abbrev pub chunk_bytes : ℕ
+chunk_bytes = 4096
+
+-- the chunks of a file of so many bytes
+abbrev pub chunks_for : ℕ → ℕ
+chunks_for size = (size + 4095) / chunk_bytes
+
+-- the chunks that a node takes
 abbrev pub chunks_of : Node → ℕ
 chunks_of Dir = 0
-chunks_of (File bytes) = (length bytes + 4095) / 4096
+chunks_of (File bytes) = chunks_for (length bytes)
 
 -- the chunks of all files
 abbrev pub chunks : Tree → ℕ
@@ -144,6 +152,10 @@ charge t = 1 + 2 * length t.nodes + chunks t
 pub record Limits : Type 0 where
   pub keys : ℕ
   pub pages : ℕ
+
+-- the most keys that there are on any device
+abbrev pub greatest_keys : ℕ
+greatest_keys = 68544
 
 -- whether a tree stays within them
 abbrev pub has_room : Limits → Tree → Bool

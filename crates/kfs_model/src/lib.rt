@@ -14,12 +14,14 @@
 #![tactic(auto)]
 
 mod endings;
+mod lengths;
 
 ghost use Rattle.std.specs.Prelude.{◌≡◌, ◌∷◌, []};
 
 pub use endings::{ends_in_dot, ends_in_dot_dot, ends_in_dots, is_dot, is_dot_dot, is_root};
 use kfs_path::{Call, Reply};
 use kv_base::{Damage, Text};
+pub use lengths::{CHUNK, GREATEST_LENGTH, MOST_CHUNKS, chunks_for};
 use std::alloc::AllocError;
 
 /// A directory, or a file with its bytes.

@@ -40,11 +40,8 @@ path_of bytes =
     Ok (pieces_of bytes, ends_in_slash bytes)
 
 -- What a function returned, seen by view, is what reading gives, unless memory ran out.
-abbrev pub Fails : {Y : Type 0} → PathFault → Result Y PathFault → Type 0
-Fails Memory read = Unit {0}
-Fails NoEntry read = read ≡ Err NoEntry
-Fails NameTooLong read = read ≡ Err NameTooLong
-
-abbrev pub Gives : {X Y : Type 0} → (X → Y) → Result X PathFault → Result Y PathFault → Type 0
-Gives view (Ok x) read = read ≡ Ok (view x)
-Gives view (Err e) read = Fails e read
+abbrev pub ReadsPath : {X Y : Type 0} → (X → Y) → Result X PathFault → Result Y PathFault → Type 0
+ReadsPath view (Ok x) read = read ≡ Ok (view x)
+ReadsPath view (Err Memory) read = Unit {0}
+ReadsPath view (Err NoEntry) read = read ≡ Err NoEntry
+ReadsPath view (Err NameTooLong) read = read ≡ Err NameTooLong

@@ -46,11 +46,11 @@ pub struct Path {
 
 impl Path {
     ghost use Rattle.std.specs.Prelude.{◌≡◌};
-    ghost use Rattle.kfs_path.specs.Pieces.{path_of, Gives};
+    ghost use Rattle.kfs_path.specs.Pieces.{path_of, ReadsPath};
 
     /// The path that the bytes spell. The errors come in their order.
     pub fn read(alloc: Global, bytes: &[u8]) -> Result<Path, PathFault>
-        ensures { Gives (λ p. (p.pieces, p.trailing)) result (path_of bytes.now) }
+        ensures { ReadsPath (λ p. (p.pieces, p.trailing)) result (path_of bytes.now) }
     {
         if bytes.is_empty() {
             return Err(PathFault::NoEntry);

@@ -6,10 +6,9 @@ use Rattle.std.specs.FinMap.{is_sorted}
 use Rattle.std.proofs.lemmas.Bool.Decides.{nat_tests}
 use Rattle.kfs_model.specs.declared.Node.{Node}
 use Rattle.kfs_model.specs.declared.Node.TheVariants.{Dir, File}
-use Rattle.kfs_model.specs.Tree.{Tree, Limits, charge, chunks, chunks_of, with_node, has_room, written, fits, fits_at, node_of}
+use Rattle.kfs_model.specs.Tree.{Tree, Limits, charge, chunks, chunks_for, chunks_of, with_node, has_room, written, fits, fits_at, node_of}
 use Rattle.kfs_model.specs.Step.{content}
 use Rattle.kfs_model.proofs.Fits.{replaced, fits_is, size_written}
-use Rattle.kfs_plain.specs.Tables.{chunks_for}
 
 -- the chunks of a node are those of its content
 pub chunks_of-content : (t : Tree) (n : ℕ) (old : Node) → node_of t n ≡ Some old → chunks_for (length (content t n)) ≡ chunks_of old

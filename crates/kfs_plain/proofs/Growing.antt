@@ -8,7 +8,7 @@ use Rattle.kfs_path.specs.declared.call.Flags.{Flags}
 use Rattle.kfs_path.specs.declared.call.Reply.{Reply}
 use Rattle.kfs_plain.specs.declared.fault.Fault.{Fault}
 use Rattle.kfs_plain.specs.declared.fault.Fault.TheVariants.{Memory, No}
-use Rattle.kfs_plain.specs.Gives.{Does}
+use Rattle.kfs_plain.specs.Answers.{Does}
 use Rattle.kfs_model.specs.declared.Node.{Node}
 use Rattle.kfs_model.specs.declared.Node.TheVariants.{Dir, File}
 use Rattle.kfs_model.specs.declared.Description.{Description}

@@ -1,4 +1,4 @@
-pub mod Fails
+pub mod Passed
 pub mod Growing
 pub mod Putting
 pub mod Entries

@@ -1,5 +1,5 @@
 pub mod Fault
-pub mod Gives
+pub mod Answers
 pub mod Tables
 pub mod Renaming
 pub mod Plain

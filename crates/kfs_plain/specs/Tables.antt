@@ -1,5 +1,5 @@
 -- The tree and the desk that the tables keep.
-use Rattle.std.specs.Prelude.{ℕ, ◌≡◌, ◌≤◌, ◌+◌, ◌/◌, ◌==◌, ◌||◌, not, nat_lt, nat_le, List, [], ◌∷◌, length, Some, None, IsSome, Result, Ok, if◌then◌else◌, T}
+use Rattle.std.specs.Prelude.{ℕ, ◌≡◌, ◌≤◌, ◌+◌, ◌==◌, ◌||◌, not, nat_lt, nat_le, List, [], ◌∷◌, length, Some, None, IsSome, Result, Ok, if◌then◌else◌, T}
 use Rattle.std.specs.Ordering.{nat_cmp}
 use Rattle.std.specs.List.{filter, list_any}
 use Rattle.std.specs.FinMap.{find, put, is_sorted}
@@ -11,7 +11,7 @@ use Rattle.kfs_path.specs.declared.call.Whence.{Whence}
 use Rattle.kfs_path.specs.declared.call.Whence.TheVariants.{Set, Cur, End}
 use Rattle.kfs_path.specs.declared.path.Path.{Path}
 use Rattle.kfs_model.specs.Ladder.{◌>>◌, ◌when◌}
-use Rattle.kfs_model.specs.Tree.{Place, Tree, Limits, charge, chunks, node_of, fits, greatest_length}
+use Rattle.kfs_model.specs.Tree.{Place, Tree, Limits, charge, chunks, node_of, fits, greatest_keys, greatest_length}
 use Rattle.kfs_model.specs.declared.Description.{Description}
 use Rattle.kfs_model.specs.Desk.{Desk, with_description}
 use Rattle.kfs_model.specs.Step.{Route, World, content, with_offset, greatest_count}
@@ -33,10 +33,6 @@ limits_of t = record { keys = t.keys; pages = t.pages }
 
 abbrev pub route_of : Path → Route
 route_of path = record { pieces = path.pieces; trailing = path.trailing }
-
--- the chunks of a file of so many bytes
-abbrev pub chunks_for : ℕ → ℕ
-chunks_for size = (size + 4095) / 4096
 
 -- the lowest number from n on that no description has, where their numbers rise from n on
 abbrev pub first_gap : ℕ → List (ℕ × Description) → ℕ
@@ -89,7 +85,7 @@ IsCounted files = files.chunks ≡ chunks (tree_of files)
 -- No node has a number from the next one on, what is open is there, under rising numbers, and the
 -- tree takes no more keys than there are, or no more than a root alone.
 pub record IsSound (k : Limits) (w : World) : Type 0 where
-  pub few : k.keys ≤ 68544
+  pub few : k.keys ≤ greatest_keys
   pub within : charge w.tree ≤ k.keys + 3
   pub free : (n : ℕ) → w.tree.next ≤ n → node_of w.tree n ≡ None
   pub there : (d : ℕ) (it : Description) → find nat_cmp d w.desk.descriptions ≡ Some it → IsSome (node_of w.tree it.node)

@@ -5,10 +5,10 @@ ghost use Rattle.std.specs.FinMap.{is_sorted};
 ghost use Rattle.kfs_model.specs.declared.Node.TheVariants.{File};
 ghost use Rattle.kfs_model.specs.Tree.{charge, with_node, written, resized, node_of};
 ghost use Rattle.kfs_model.specs.Step.{content, bytes_of};
-ghost use Rattle.kfs_plain.specs.Tables.{tree_of, desk_of, world_of, limits_of, chunks_for, IsKept};
+ghost use Rattle.kfs_plain.specs.Tables.{tree_of, desk_of, world_of, limits_of, IsKept};
 
 use crate::tables::{Files, Tables};
-use kfs_model::Node;
+use kfs_model::{Node, chunks_for};
 use kfs_path::{Data, Memory, Text};
 use std::alloc::Global;
 
@@ -20,13 +20,6 @@ pub fn content(files: &Files, node: u64) -> &[u8]
         Some(Node::File(bytes)) => bytes.bytes(),
         _ => &[],
     }
-}
-
-/// The chunks of a file of so many bytes.
-pub fn chunks_for(size: u64) -> u64
-    ensures { result ≡ chunks_for size }
-{
-    size.div_ceil(4096)
 }
 
 /// One byte a number of times.

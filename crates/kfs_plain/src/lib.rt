@@ -8,7 +8,7 @@
 //! from the next one on, what is open is there, and the charge is within the keys and the three of a root alone
 //! (`IsSound`).
 //!
-//! Begin with `PlainTree` in `src/tree.rt`, and with `Does` in `specs/Gives.antt`, the form of the contract of each
+//! Begin with `PlainTree` in `src/tree.rt`, and with `Does` in `specs/Answers.antt`, the form of the contract of each
 //! call. `kfs_runner` counts beside it what a load comes to (`src/load.rt` there), and `kfs_rows` holds the answers of
 //! sessions against it.
 #![tactic(auto)]

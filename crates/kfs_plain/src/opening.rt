@@ -6,7 +6,7 @@ ghost use Rattle.std.specs.FinMap.{put, find};
 ghost use Rattle.kfs_model.specs.Tree.{with_new, node_of};
 ghost use Rattle.kfs_model.specs.Desk.{opened, lowest_free, free_from};
 ghost use Rattle.kfs_model.specs.Step.{close, dup, open_path, open_missing, open_dir, open_file};
-ghost use Rattle.kfs_plain.specs.Gives.{Does};
+ghost use Rattle.kfs_plain.specs.Answers.{Does};
 ghost use Rattle.kfs_plain.specs.Tables.{tree_of, desk_of, world_of, limits_of, route_of, first_gap, free_number, with_open, with_offset_at, closed, IsKept};
 
 use crate::contents::put_content;

@@ -2,7 +2,7 @@
 ghost use Rattle.std.specs.Prelude.{◌≡◌, ◌<◌, ◌≤◌, ◌+◌, ◌^◌, IfOk, length};
 ghost use Rattle.kfs_model.specs.Tree.{with_new};
 ghost use Rattle.kfs_model.specs.Step.{readable, read, pread, lseek, piece_at, content, is_open_dir};
-ghost use Rattle.kfs_plain.specs.Gives.{Does, Gives};
+ghost use Rattle.kfs_plain.specs.Answers.{Does, AnswersAs};
 ghost use Rattle.kfs_plain.specs.Tables.{tree_of, desk_of, world_of, limits_of, base, IsKept};
 
 use crate::contents::content;
@@ -29,7 +29,7 @@ fn is_open_dir(files: &Files, node: u64) -> bool
 
 /// The description of a descriptor from which so many bytes may be read.
 fn readable(t: &Tables, fd: u32, count: u32) -> Result<(u64, Description), Fault>
-    ensures { Gives (λ it. it) result (readable (world_of t.now) fd count) }
+    ensures { AnswersAs (λ it. it) result (readable (world_of t.now) fd count) }
 {
     let Some((number, it)) = opened(&t.desk, fd) else {
         return Err(Fault::No(Errno::EBADF));

@@ -5,7 +5,7 @@ ghost use Rattle.std.specs.BTreeSet.{contains};
 ghost use Rattle.kfs_model.specs.Tree.{moved, moved_place, all_put, below};
 ghost use Rattle.kfs_model.specs.Step.{swept, unlink, rename, rmdir_at, is_same_place};
 ghost use Rattle.kfs_plain.specs.Renaming.{rename_from, rename_to, judge_rename, rmdir};
-ghost use Rattle.kfs_plain.specs.Gives.{Does, Gives};
+ghost use Rattle.kfs_plain.specs.Answers.{Does, AnswersAs};
 ghost use Rattle.kfs_plain.specs.Tables.{tree_of, world_of, limits_of, route_of, with_names, HasUsed, IsKept};
 
 use crate::fault::Fault;
@@ -115,7 +115,7 @@ pub fn unlink(alloc: Global, t: &mut Tables, path: &[u8]) -> Result<Reply, Fault
 
 /// The directory that a path names, where it may be taken away.
 fn rmdir_at(alloc: Global, t: &Tables, path: &[u8]) -> Result<Names, Fault>
-    ensures { Gives (λ place. place) result (rmdir_at (tree_of t.now.files) path.now) }
+    ensures { AnswersAs (λ place. place) result (rmdir_at (tree_of t.now.files) path.now) }
 {
     let route = syntax(alloc, path)?;
     if ends_in_dot(route.pieces.items()) {
@@ -222,7 +222,7 @@ fn renamed(
 
 /// What is judged of the place that a rename is from.
 fn rename_from(alloc: Global, t: &Tables, from: &Path, to: &Path) -> Result<Names, Fault>
-    ensures { Gives (λ place. place) result (rename_from (tree_of t.now.files) (route_of from.now) (route_of to.now)) }
+    ensures { AnswersAs (λ place. place) result (rename_from (tree_of t.now.files) (route_of from.now) (route_of to.now)) }
 {
     if ends_in_dots(from.pieces.items()) {
         return Err(Fault::No(Errno::EINVAL));
@@ -248,7 +248,7 @@ fn rename_from(alloc: Global, t: &Tables, from: &Path, to: &Path) -> Result<Name
 
 /// What is judged of the place that a rename is to.
 fn rename_to(alloc: Global, t: &Tables, p: &Names, to: &Path) -> Result<Names, Fault>
-    ensures { Gives (λ place. place) result (rename_to (tree_of t.now.files) p.now (route_of to.now)) }
+    ensures { AnswersAs (λ place. place) result (rename_to (tree_of t.now.files) p.now (route_of to.now)) }
 {
     let q = walk(alloc, &t.files, to.pieces.items())?;
     let of_file = is_file(&t.files, p);
@@ -260,7 +260,7 @@ fn rename_to(alloc: Global, t: &Tables, p: &Names, to: &Path) -> Result<Names, F
 
 /// Whether the new place may take the old one.
 fn judge_rename(t: &Tables, p: &Names, q: &Names) -> Result<(), Fault>
-    ensures { Gives (λ _. tt) result (judge_rename (tree_of t.now.files) p.now q.now) }
+    ensures { AnswersAs (λ _. tt) result (judge_rename (tree_of t.now.files) p.now q.now) }
 {
     if below(p.items(), q.items()).is_some() {
         return Err(Fault::No(Errno::EINVAL));

@@ -7,14 +7,11 @@ ghost use Rattle.kfs_model.specs.Tree.{charge, chunks, chunks_of, with_new, with
 ghost use Rattle.kfs_model.specs.Step.{content};
 ghost use Rattle.kfs_plain.specs.Tables.{tree_of, desk_of, world_of, limits_of, IsKept};
 
-use crate::contents::{chunks_for, content};
+use crate::contents::content;
 use crate::tables::Tables;
-use kfs_model::Node;
+use kfs_model::{CHUNK, MOST_CHUNKS, Node, chunks_for};
 use kfs_path::{Memory, Names};
 use std::collections::BTreeMap;
-
-/// The most chunks of a file.
-const MAX_CHUNKS: u64 = 256;
 
 /// The keys that the tree takes.
 pub fn charge(t: &Tables) -> u64
@@ -86,6 +83,6 @@ pub fn fits(t: &Tables, node: u64, place: u64, most: u64) -> u64
     if greatest < before {
         return 0;
     }
-    let end = greatest.min(MAX_CHUNKS) * 4096;
+    let end = greatest.min(MOST_CHUNKS) * CHUNK;
     most.min(end.saturating_sub(place))
 }

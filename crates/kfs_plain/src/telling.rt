@@ -2,7 +2,7 @@
 ghost use Rattle.std.specs.Prelude.{◌≡◌, IfOk, Ok, map};
 ghost use Rattle.kfs_model.specs.Step.{stat, fstat, list, room, item_of, told};
 ghost use Rattle.kfs_model.specs.Tree.{node_of};
-ghost use Rattle.kfs_plain.specs.Gives.{Does};
+ghost use Rattle.kfs_plain.specs.Answers.{Does};
 ghost use Rattle.kfs_plain.specs.Tables.{tree_of, world_of, limits_of, IsKept};
 
 use crate::fault::Fault;

@@ -1,10 +1,10 @@
 //! The plain tree.
 ghost use Rattle.std.specs.Prelude.{◌≡◌, ◌<◌, ◌≤◌, ◌+◌, ◌^◌, ℕ, IfOk, OnErr};
 ghost use Rattle.kfs_model.specs.Step.{step, effect, mkdir, fsync};
-ghost use Rattle.kfs_model.specs.Tree.{root_alone};
+ghost use Rattle.kfs_model.specs.Tree.{greatest_keys, root_alone};
 ghost use Rattle.kfs_model.specs.Desk.{empty_desk};
 ghost use Rattle.kfs_model.specs.Life.{IsFree};
-ghost use Rattle.kfs_plain.specs.Gives.{Does};
+ghost use Rattle.kfs_plain.specs.Answers.{Does};
 ghost use Rattle.kfs_plain.specs.Tables.{desk_of, world_of, limits_of, free_number, IsKept};
 ghost use Rattle.kfs_plain.specs.Plain.{Plain, totals_of};
 
@@ -54,7 +54,7 @@ impl Model for PlainTree {
 impl PlainTree {
     /// The tree of a root alone, with room for so many keys and pages.
     pub fn new(alloc: Global, keys: u64, pages: u64) -> Result<PlainTree, Memory>
-        requires { keys ≤ 68544 }
+        requires { keys ≤ greatest_keys }
         ensures { IfOk result (λ p. p ≡ record { world = record { tree = root_alone; desk = empty_desk }; limits = record { keys = keys; pages = pages } }) }
     {
         let mut names = BTreeMap::new(alloc);

@@ -3,7 +3,7 @@ ghost use Rattle.std.specs.Prelude.{◌≡◌, IfOk, OnOk};
 ghost use Rattle.std.specs.Option.{option_map};
 ghost use Rattle.kfs_model.specs.Tree.{entry_at, entered, walk, child, below, further, names_in};
 ghost use Rattle.kfs_model.specs.Step.{syntax, is_there, is_dir, is_file, is_same_place, isnt_empty};
-ghost use Rattle.kfs_plain.specs.Gives.{Gives};
+ghost use Rattle.kfs_plain.specs.Answers.{AnswersAs};
 ghost use Rattle.kfs_plain.specs.Tables.{tree_of, route_of};
 
 use crate::fault::Fault;
@@ -14,7 +14,7 @@ use std::alloc::Global;
 
 /// The path that the bytes spell.
 pub fn syntax(alloc: Global, bytes: &[u8]) -> Result<Path, Fault>
-    ensures { Gives route_of result (syntax bytes.now) }
+    ensures { AnswersAs route_of result (syntax bytes.now) }
 {
     let path = Path::read(alloc, bytes)?;
     Ok(path)
@@ -74,7 +74,7 @@ fn step_on(alloc: Global, place: &mut Names, piece: &Text) -> Result<(), Memory>
 
 /// What a piece is looked for in has to be a directory.
 fn enter(files: &Files, place: &Names) -> Result<(), Fault>
-    ensures { Gives (λ _. tt) result (entered (entry_at (tree_of files.now) place.now)) }
+    ensures { AnswersAs (λ _. tt) result (entered (entry_at (tree_of files.now) place.now)) }
 {
     match entry_at(files, place) {
         None => Err(Fault::No(Errno::ENOENT)),
@@ -85,7 +85,7 @@ fn enter(files: &Files, place: &Names) -> Result<(), Fault>
 
 /// The place that the pieces lead to from the root.
 pub fn walk(alloc: Global, files: &Files, pieces: &[Text]) -> Result<Names, Fault>
-    ensures { Gives (λ place. place) result (walk (tree_of files.now) pieces.now) }
+    ensures { AnswersAs (λ place. place) result (walk (tree_of files.now) pieces.now) }
 {
     let mut place = Names::new(alloc);
     for piece in pieces {

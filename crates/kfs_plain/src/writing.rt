@@ -3,7 +3,7 @@ ghost use Rattle.std.specs.Prelude.{◌≡◌, ◌<◌, ◌≤◌, ◌+◌, ◌^
 ghost use Rattle.kfs_model.specs.declared.Node.TheVariants.{File};
 ghost use Rattle.kfs_model.specs.Tree.{node_of, with_node, written, fits};
 ghost use Rattle.kfs_model.specs.Step.{write, pwrite, truncate, ftruncate, lengthened, content, bytes_of, changes_tree};
-ghost use Rattle.kfs_plain.specs.Gives.{Does, Gives};
+ghost use Rattle.kfs_plain.specs.Answers.{Does, AnswersAs};
 ghost use Rattle.kfs_plain.specs.Tables.{tree_of, desk_of, world_of, limits_of, writable, IsKept};
 
 use crate::contents::{content, data_front, data_len, put_content, resized, written};
@@ -24,7 +24,7 @@ const MAX_LENGTH: u64 = 1_048_576;
 fn writable(t: &Tables, node: u64, place: u64, given: &Data) -> Result<u64, Fault>
     requires kept { IsKept t.now }
     requires there { IsSome (node_of (tree_of t.now.files) node) }
-    ensures { Gives (λ j. j) result (writable (limits_of t.now) (tree_of t.now.files) node place (bytes_of given.now)) }
+    ensures { AnswersAs (λ j. j) result (writable (limits_of t.now) (tree_of t.now.files) node place (bytes_of given.now)) }
 {
     let most = data_len(given);
     if most > MAX_COUNT as usize {

@@ -1,5 +1,5 @@
 -- A new node as an event of a life, whichever call makes it.
-use Rattle.std.proofs.Common.{◌≡◌, ℕ, ◌<◌, ◌≤◌, ◌+◌, ◌^◌, ◌&&◌, inl, inr, true, false, cond, Bool, refl, sym, ◌∙◌, ap, subst, arith, List, [], ◌∷◌, ◌++◌, length, Some, None, nat_lt, nat_le}
+use Rattle.std.proofs.Common.{◌≡◌, ℕ, ◌<◌, ◌≤◌, ◌+◌, ◌^◌, ◌&&◌, inl, inr, true, false, refl, sym, ◌∙◌, ap, subst, arith, List, [], ◌∷◌, ◌++◌, length, Some, None, nat_lt, nat_le}
 use Rattle.std.specs.Ordering.{nat_cmp}
 use Rattle.std.specs.FinMap.{find}
 use Rattle.std.proofs.lemmas.Bool.Decides.{nat_tests}
@@ -14,14 +14,14 @@ use Rattle.kfs_model.specs.declared.Node.{Node}
 use Rattle.kfs_model.specs.declared.Line.TheVariants as lines
 use Rattle.kfs_model.specs.declared.Answer.TheVariants as answers
 use Rattle.kfs_model.specs.Tree.{Place, Tree, charge, chunks, chunks_of, with_new}
-use Rattle.kfs_model.specs.Step.{World, After, step}
-use Rattle.kfs_model.specs.Change.{weight, is_boundary}
+use Rattle.kfs_model.specs.Step.{World, step}
+use Rattle.kfs_model.specs.Change.{weight}
 use Rattle.kfs_model.specs.Life.{Live, can_fail}
 use Rattle.kfs_shows.specs.Shows.{inode_of}
 use Rattle.kfs_shows.proofs.Making.{IsFreePlace, IsFresh}
-use Rattle.kfs_tx.specs.Tx.{Tx, SameBounds, Fallen, seen, committed, counted, with_super, is_full}
+use Rattle.kfs_tx.specs.Tx.{Tx, Fallen}
 use Rattle.kfs_tx.proofs.Seeing.{ready_put, keys_put}
-use Rattle.kfs_tx.proofs.Falling.{put_falls, change_falls}
+use Rattle.kfs_tx.proofs.Falling.{put_falls}
 use Rattle.kfs_core.specs.Flat.{Where}
 use Rattle.kfs_core.specs.Making.{parent_of, with_inode, with_entry, added, AddFault}
 use Rattle.kfs_core.proofs.Adding.{free_place, entry_ready, entry_keys, new_is_tree, new_shows, new_chunks, new_charge}
@@ -29,16 +29,13 @@ use Rattle.kfs_core.proofs.Ways.{IsSpot}
 use Rattle.kfs_posix.specs.Opens.{Opens, desk_of}
 use Rattle.kfs_posix.specs.Holding.{Holds}
 use Rattle.kfs_posix.specs.Volume.{Volume, limits_of, cause_of}
-use Rattle.kfs_posix.specs.Showing.{ShowsLive, IsWhole, GoesOn}
-use Rattle.kfs_posix.proofs.Changing.{IsPut, change_shown, sees, to_save}
-use Rattle.kfs_posix.proofs.Going.{Fell, spare, as_before, as_after, change_goes_at, fall_goes, Refuses}
-use Rattle.kfs_posix.proofs.Calls.{stands_of, room_for}
+use Rattle.kfs_posix.specs.Showing.{ShowsLive, GoesOn}
+use Rattle.kfs_posix.proofs.Changing.{IsPut, change_shown}
+use Rattle.kfs_posix.proofs.Going.{Fell, spare, as_before, change_goes_at, fall_goes, Refuses}
+use Rattle.kfs_posix.proofs.Calls.{stands_of}
 use Rattle.kfs_core.specs.declared.fault.CoreFault.TheVariants.{Device}
+use Rattle.kfs_posix.proofs.Planned.{boundary_fell, changed_same, changed_bounds}
 use Rattle.kfs_posix.proofs.Rooms.{both_true}
-
-keeps : (r : Tx) (b : Bool) → SameBounds r.machine (cond b (committed r) r).machine × ((cond b (committed r) r).machine.cuts ≡ r.machine.cuts) × ((cond b (committed r) r).machine.faults ≡ r.machine.faults)
-keeps r true = (record { most_cuts = refl; most_faults = refl; room_keys = refl; room_pages = refl }, refl, refl)
-keeps r false = (record { most_cuts = refl; most_faults = refl; room_keys = refl; room_pages = refl }, refl, refl)
 
 small_value : (n : ℕ) (key : List ℕ) → (nat_lt 128 (length (entry_value n)) && nat_lt 32 (length key)) ≡ false
 small_value n key = let h = length_be64 n in let f : nat_lt 128 (length (entry_value n)) ≡ false = grind (arith, nat_tests) in ap (λ b. b && nat_lt 32 (length key)) f
@@ -104,9 +101,8 @@ module _ (old : Volume) (kind : ℕ) (node : Node) (fresh : IsFresh node) (value
   pub add_goes : (call : Call) (reply : Reply) (files : Opens) (d : ℕ) → find nat_cmp d old.files.files ≡ None → old.down ≡ None → ((live : Live) → ShowsLive old live → Adds old node call reply files d w live)
       → GoesOn old (lines.Call call) (answers.Reply reply) (record old { tx = added old.tx kind (parent_of w) w.name; charge = old.charge + 2; files = files })
   add_goes call reply files d free up adds =
-      let k = keeps (counted r 4 (old.tx.next + 1)) (is_full (old.tx.since + 1) (old.tx.weight + 4)) in
-      change_goes_at old (record old { tx = added old.tx kind (parent_of w) w.name; charge = old.charge + 2; files = files }) call reply 4 d free up k.1 k.2
-      (record { most_cuts = k.0.most_cuts; most_faults = k.0.most_faults; room_keys = k.0.room_keys; room_pages = k.0.room_pages })
+      let k = changed_same old.tx r refl 4 (old.tx.next + 1) in
+      change_goes_at old (record old { tx = added old.tx kind (parent_of w) w.name; charge = old.charge + 2; files = files }) call reply 4 d free up k.cuts k.faults (changed_bounds old.tx r refl 4 (old.tx.next + 1))
       (λ live sh.
       let a = adds live sh in
       let plan = planned call reply files d live sh a in
@@ -130,21 +126,4 @@ module _ (old : Volume) (kind : ℕ) (node : Node) (fresh : IsFresh node) (value
           before live sh (record { cause = f.cause; stable = f.stable; bounds = record { most_cuts = f.bounds.most_cuts; most_faults = f.bounds.most_faults; room_keys = f.bounds.room_keys; room_pages = f.bounds.room_pages } })
       fell live sh adds (inr (inr a)) =
           let plan = planned call reply files (spare old) live sh adds in
-          let tree = with_new live.world.tree adds.place node in
-          let put = plan.put in
-          let shows = sees old live sh r tree 4 (old.tx.next + 1) (old.charge + 2) old.chunks put plan.charged plan.chunked files adds.holds in
-          let saved = to_save old live sh r tree 4 (old.tx.next + 1) (old.charge + 2) old.chunks put plan.charged plan.chunked files adds.holds in
-          let room = room_for (seen (with_super r (old.tx.next + 1))) tree (live.past.count + 1) (limits_of old) r.machine put.tree shows (let h = put.low in omega arith) put.room sh.keys sh.pages in
-          elim (change_falls r 4 (old.tx.next + 1) fault new.tx.machine put.ready (let f = put.few in let l = sh.light.light in omega arith) room a) [
-            | inl f ↦ before live sh (record { cause = f.cause; stable = f.stable; bounds = record { most_cuts = f.bounds.most_cuts; most_faults = f.bounds.most_faults; room_keys = f.bounds.room_keys; room_pages = f.bounds.room_pages } })
-            | inr x ↦
-                let f = x.1 in
-                record {
-                  stands = seen (with_super r (old.tx.next + 1));
-                  fallen = record { cause = f.cause; stable = f.stable; bounds = record { most_cuts = f.bounds.most_cuts; most_faults = f.bounds.most_faults; room_keys = f.bounds.room_keys; room_pages = f.bounds.room_pages } };
-                  stood = as_after 4 (ap (weight live.world call) adds.step_is ∙ adds.weighs)
-                      (ap (λ (a : After). is_boundary live.since call a.reply (Some 4)) adds.step_is ∙ (λ i. is_full (sym sh.changes i + 1) (sym sh.weight i + 4)) ∙ x.0)
-                      (subst (λ t. IsWhole (limits_of old) (seen (with_super r (old.tx.next + 1))) t (live.past.count + 1)) (ap (λ (a : After). a.world.tree) (sym adds.step_is)) saved);
-                  can = λ cause e. can live.world cause;
-                }
-          ]
+          boundary_fell old new live sh r refl (with_new live.world.tree adds.place node) 4 (old.tx.next + 1) (old.charge + 2) old.chunks plan.put plan.charged plan.chunked files adds.holds call reply fault adds.step_is adds.weighs (omega arith) (can live.world) a

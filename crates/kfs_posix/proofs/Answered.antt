@@ -1,5 +1,5 @@
 -- Each call of a session, by what the tree's call did.
-use Rattle.std.proofs.Common.{◌≡◌, ◌≢◌, ℕ, ◌<◌, ◌≤◌, ◌+◌, ◌-◌, ◌^◌, ◌==◌, inl, inr, true, false, cond, refl, sym, ◌∙◌, ap, subst, arith, List, Option, Some, None, is_some, Result, Ok, Err}
+use Rattle.std.proofs.Common.{◌≡◌, ℕ, ◌<◌, ◌≤◌, ◌+◌, ◌-◌, ◌^◌, ◌==◌, inl, inr, true, false, cond, refl, sym, ◌∙◌, ap, subst, arith, List, Option, Some, None, is_some, Result, Ok, Err, Bool}
 use Rattle.kfs_path.specs.declared.call.Call.{Call}
 use Rattle.kfs_path.specs.declared.call.Call.TheVariants as calls
 use Rattle.kfs_path.specs.declared.call.Reply.{Reply}
@@ -20,26 +20,26 @@ use Rattle.kfs_tx.specs.Tx.{RunningState, Aged, age_of, seen, committed, CommitF
 use Rattle.kfs_core.specs.declared.fault.CoreFault.{CoreFault}
 use Rattle.kfs_core.specs.declared.fault.CoreFault.TheVariants.{No, Device}
 use Rattle.kfs_core.specs.Core.{KfsState, tx_in, Stays}
-use Rattle.kfs_core.specs.Flat.{Where, place_in, stat_in, list_in}
-use Rattle.kfs_core.specs.Gives.{Fails as GivesFault, LeavesAtFault, CommitFails}
-use Rattle.kfs_core.specs.Making.{MkdirFails, made, parent_of}
+use Rattle.kfs_core.specs.Flat.{Where, place_in}
+use Rattle.kfs_core.specs.Returned.{RefusesAs, LeavesAtFault, CommitFails}
+use Rattle.kfs_core.specs.Making.{MkdirFails, made, with_entry, parent_of}
 use Rattle.kfs_posix.specs.declared.open_files.OpenFile.{OpenFile}
 use Rattle.kfs_posix.specs.Opens.{Opens, open_at}
 use Rattle.kfs_posix.specs.Volume.{Volume, SessionState, state_of, volume_of, running_in, limits_of, cause_of}
-use Rattle.kfs_posix.specs.Answering.{Answers, IsYoung, CountsFaults, KeepsCause, refusal, down_after}
+use Rattle.kfs_posix.specs.Answering.{Answers, IsYoung, refusal, down_after}
 use Rattle.kfs_posix.specs.Looking.{found_by, names_by, told_by}
-use Rattle.std.proofs.lemmas.Bool.Decides.{nat_tests}
 use Rattle.kfs_posix.specs.Showing.{ShowsLive, GoesOn}
 use Rattle.std.specs.Prelude.{IsSome}
-use Rattle.kfs_posix.proofs.Going.{spare, idle_goes, down_goes, Refuses, errs}
+use Rattle.kfs_posix.proofs.Going.{spare, idle_goes, down_goes, Refuses}
 use Rattle.kfs_posix.proofs.Held.{described, opened_same}
-use Rattle.kfs_posix.proofs.Calls.{any_cause, commit_goes, commit_falls_in, stat_goes, list_goes, sync_goes, sync_falls}
+use Rattle.kfs_posix.proofs.Calls.{read_falls, any_cause, commit_goes, commit_falls_in, stat_goes, list_goes, sync_goes, sync_falls}
 use Rattle.kfs_posix.proofs.Looking.{stat_same, list_same, told_ok, names_ok}
-use Rattle.kfs_posix.proofs.Fault.{read_refused, read_counts, commit_counts, add_counts, added_same}
-use Rattle.kfs_posix.proofs.Mkdir.{place_fits, mkdir_goes, mkdir_refused, mkdir_unread, mkdir_falls}
+use Rattle.kfs_posix.proofs.Fault.{alone_caused, make_caused}
+use Rattle.kfs_posix.proofs.Planned.{changed_same}
+use Rattle.kfs_posix.proofs.Mkdir.{place_fits, mkdir_goes, mkdir_refused, mkdir_falls}
 use Rattle.kfs_posix.specs.Turning.{Turn, turned}
-use Rattle.kfs_posix.proofs.Turns.{Turns, turned_goes, turned_counts, turned_keeps}
-use Rattle.kfs_posix.proofs.Events.{Happens, Fails, IsPlain, plain, done_plain, rests, idle, fails, answered, failed, low_next, low_count}
+use Rattle.kfs_posix.proofs.Turns.{Turns, turned_happens}
+use Rattle.kfs_posix.proofs.Events.{unread, taken_down, erred, IsAnswer, by_parts, Happens, Fails, rests, idle, answered, low_next, low_count}
 
 -- ---- stat and list
 
@@ -53,42 +53,37 @@ module _ (old : SessionState) (k0 k1 : KfsState) (o : Opens) (d : Option Cause) 
   abbrev b : Volume
   b = volume_of k0 o d
 
-  pub stat_answered : (path : List ℕ) (n kind size : ℕ) (reply : Reply) → IsPlain reply → found_by (seen (tx_in k0)) path ≡ Ok (n, kind, size) → reply ≡ told_by (n, kind, size) → tx_in k1 ≡ tx_in k0 → Happens old (calls.Stat path) reply k1 o d
-  stat_answered path n kind size reply is_plain gives told leaves = idle old k0 k1 o d is up rest (calls.Stat path) reply is_plain leaves
+  pub stat_answered : (path : List ℕ) (n kind size : ℕ) (reply : Reply) → found_by (seen (tx_in k0)) path ≡ Ok (n, kind, size) → reply ≡ told_by (n, kind, size) → tx_in k1 ≡ tx_in k0 → Happens old (calls.Stat path) reply k1 o d
+  stat_answered path n kind size reply gives told leaves = idle old k0 k1 o d is up rest (calls.Stat path) reply (subst IsAnswer (sym told) (tells (kind == 1))) leaves
       (subst (λ r. GoesOn b (lines.Call (calls.Stat path)) (answers.Reply r) b) (sym told) (stat_goes b path (Ok (told_by (n, kind, size))) up (stat_same (seen (tx_in k0)) path ∙ ap by_told gives)))
-
-  pub stat_refused : (path : List ℕ) (reply : Reply) (fault : CoreFault) (d1 : Option Cause) → GivesFault fault (found_by (seen (tx_in k0)) path) → LeavesAtFault (tx_in k0) fault (tx_in k1) → reply ≡ refusal fault → d1 ≡ down_after d fault → Fails old (calls.Stat path) fault reply k1 o d1
-  stat_refused path reply fault d1 gives leaves reply_is down = fails old k0 k1 o d is up rest (calls.Stat path) fault reply d1 reply_is down (read_counts (tx_in k0) (tx_in k1) fault awake leaves)
-      (read_refused b (calls.Stat path) (stat_in (seen (tx_in k0)) path) fault (tx_in k1) up (by fault gives) leaves (λ w. refl) (λ w. refl) (λ e is. stat_goes b path (Err e) up is))
     where
-      by : (fault : CoreFault) → GivesFault fault (found_by (seen (tx_in k0)) path) → GivesFault fault (stat_in (seen (tx_in k0)) path)
-      by (No e) h = stat_same (seen (tx_in k0)) path ∙ ap by_told h
-      by (Device f) h = tt
+      tells : (dir : Bool) → IsAnswer (cond dir (replies.Dir n) (replies.File n size))
+      tells true = tt
+      tells false = tt
+
+  pub stat_refused : (path : List ℕ) (reply : Reply) (fault : CoreFault) (d1 : Option Cause) → RefusesAs fault (found_by (seen (tx_in k0)) path) → LeavesAtFault (tx_in k0) fault (tx_in k1) → reply ≡ refusal fault → d1 ≡ down_after d fault → Fails old (calls.Stat path) fault reply k1 o d1
+  stat_refused path reply (No e) d1 h leaves reply_is down = erred old k0 k1 o o d is up (calls.Stat path) e reply d1 reply_is down leaves rest refl (stat_goes b path (Err e) up (stat_same (seen (tx_in k0)) path ∙ ap by_told h))
+  stat_refused path reply (Device f) d1 h leaves reply_is down =
+      taken_down old k0 k1 o o d is up (calls.Stat path) f reply d1 reply_is down awake rest refl (alone_caused (tx_in k0).machine f (tx_in k1).machine leaves.1) (read_falls b (record b { tx = tx_in k1; down = Some (cause_of f) }) (calls.Stat path) f (λ w. refl) (λ w. refl) up refl refl leaves)
 
   pub list_answered : (path : List ℕ) (names : List Name) → k0.keys ≤ 68544 → names_by (seen (tx_in k0)) path ≡ Ok names → tx_in k1 ≡ tx_in k0 → Happens old (calls.List path) (replies.Names names) k1 o d
-  list_answered path names small gives leaves = idle old k0 k1 o d is up rest (calls.List path) (replies.Names names) (plain (λ old new h. h) (λ old new a b. (a, b))) leaves
+  list_answered path names small gives leaves = idle old k0 k1 o d is up rest (calls.List path) (replies.Names names) tt leaves
       (list_goes b path (Ok (replies.Names names)) up (omega arith) (list_same (seen (tx_in k0)) path ∙ ap by_names gives))
 
-  pub list_refused : (path : List ℕ) (reply : Reply) (fault : CoreFault) (d1 : Option Cause) → k0.keys ≤ 68544 → GivesFault fault (names_by (seen (tx_in k0)) path) → LeavesAtFault (tx_in k0) fault (tx_in k1) → reply ≡ refusal fault → d1 ≡ down_after d fault → Fails old (calls.List path) fault reply k1 o d1
-  list_refused path reply fault d1 small gives leaves reply_is down = fails old k0 k1 o d is up rest (calls.List path) fault reply d1 reply_is down (read_counts (tx_in k0) (tx_in k1) fault awake leaves)
-      (read_refused b (calls.List path) (list_in (seen (tx_in k0)) path) fault (tx_in k1) up (by fault gives) leaves (λ w. refl) (λ w. refl) (λ e is. list_goes b path (Err e) up (omega arith) is))
-    where
-      by : (fault : CoreFault) → GivesFault fault (names_by (seen (tx_in k0)) path) → GivesFault fault (list_in (seen (tx_in k0)) path)
-      by (No e) h = list_same (seen (tx_in k0)) path ∙ ap by_names h
-      by (Device f) h = tt
+  pub list_refused : (path : List ℕ) (reply : Reply) (fault : CoreFault) (d1 : Option Cause) → k0.keys ≤ 68544 → RefusesAs fault (names_by (seen (tx_in k0)) path) → LeavesAtFault (tx_in k0) fault (tx_in k1) → reply ≡ refusal fault → d1 ≡ down_after d fault → Fails old (calls.List path) fault reply k1 o d1
+  list_refused path reply (No e) d1 small h leaves reply_is down = erred old k0 k1 o o d is up (calls.List path) e reply d1 reply_is down leaves rest refl (list_goes b path (Err e) up (omega arith) (list_same (seen (tx_in k0)) path ∙ ap by_names h))
+  list_refused path reply (Device f) d1 small h leaves reply_is down =
+      taken_down old k0 k1 o o d is up (calls.List path) f reply d1 reply_is down awake rest refl (alone_caused (tx_in k0).machine f (tx_in k1).machine leaves.1) (read_falls b (record b { tx = tx_in k1; down = Some (cause_of f) }) (calls.List path) f (λ w. refl) (λ w. refl) up refl refl leaves)
 
   -- ---- sync
 
   pub commit_answered : (call : Call) → tx_in k1 ≡ committed (tx_in k0) → GoesOn b (lines.Call call) (answers.Reply replies.Done) (record b { tx = committed (tx_in k0) }) → Happens old call replies.Done k1 o d
-  commit_answered call done goes = rests old k0 k1 o d is up rest call replies.Done done_plain (committed (tx_in k0)) (record { up = refl; cuts = refl; faults = refl }) done goes
+  commit_answered call done goes = rests old k0 k1 o d is up rest call replies.Done tt (committed (tx_in k0)) (record { up = refl; cuts = refl; faults = refl }) done goes
 
   pub commit_refused : (call : Call) (reply : Reply) (fault : CoreFault) (d1 : Option Cause) → CommitFails (tx_in k0) (tx_in k1) fault → reply ≡ refusal fault → d1 ≡ down_after d fault
       → ((f : DeviceFault) → CommitFault (tx_in k0) f (tx_in k1).machine → Refuses b call (Device f) (record b { tx = tx_in k1; down = Some (cause_of f) })) → Fails old call fault reply k1 o d1
-  commit_refused call reply fault d1 gives reply_is down falls = fails old k0 k1 o d is up rest call fault reply d1 reply_is down (commit_counts (tx_in k0) (tx_in k1) fault awake gives) (by fault gives)
-    where
-      by : (fault : CoreFault) → CommitFails (tx_in k0) (tx_in k1) fault → Refuses b call fault (record b { tx = tx_in k1; down = down_after d fault })
-      by (No e) h = absurd h
-      by (Device f) h = falls f h
+  commit_refused call reply (No e) d1 h reply_is down falls = absurd h
+  commit_refused call reply (Device f) d1 h reply_is down falls = taken_down old k0 k1 o o d is up call f reply d1 reply_is down awake rest refl h.1 (falls f h)
 
   pub sync_answered : tx_in k1 ≡ committed (tx_in k0) → Happens old calls.Sync replies.Done k1 o d
   sync_answered done = commit_answered calls.Sync done (sync_goes b up)
@@ -124,29 +119,18 @@ module _ (old : SessionState) (k0 k1 : KfsState) (o : Opens) (d : Option Cause) 
 
   pub mkdir_answered : (w : Where) → place_in (seen (tx_in k0)) k0.keys k0.charge path ≡ Ok w → tx_in k1 ≡ made (tx_in k0) (parent_of w) w.name → k1.charge ≡ k0.charge + 2 → Happens old (calls.Mkdir path) replies.Done k1 o d
   mkdir_answered w judged done charge =
-      answered old k0 k1 o o d is up (calls.Mkdir path) replies.Done done_plain (made (tx_in k0) (parent_of w) w.name) (k0.charge + 2) k0.chunks o (added_same (tx_in k0) 1 (parent_of w) w.name) done charge chunks keys pages refl
+      answered old k0 k1 o o d is up (calls.Mkdir path) replies.Done tt (made (tx_in k0) (parent_of w) w.name) (k0.charge + 2) k0.chunks o (changed_same (tx_in k0) (with_entry (tx_in k0) 1 (parent_of w) w.name) refl 4 ((tx_in k0).next + 1)) done (by_parts k0 k1 keys pages charge chunks) refl
       (mkdir_goes volume path w up low few (place_fits (seen (tx_in k0)) k0.keys k0.charge path w judged) judged)
 
   pub mkdir_not_made : (reply : Reply) (fault : CoreFault) (d1 : Option Cause) → MkdirFails (tx_in k0) (place_in (seen (tx_in k0)) k0.keys k0.charge path) fault (tx_in k1) → k1.charge ≡ k0.charge → reply ≡ refusal fault → d1 ≡ down_after d fault → Fails old (calls.Mkdir path) fault reply k1 o d1
-  mkdir_not_made reply fault d1 gives charge reply_is down =
-      failed old k0 k1 o o d is up (calls.Mkdir path) fault reply d1 reply_is down charge chunks keys pages refl
-      (add_counts (tx_in k0) (tx_in k1) 1 (place_in (seen (tx_in k0)) k0.keys k0.charge path) fault awake gives) (by fault gives)
-    where
-      by : (fault : CoreFault) → MkdirFails (tx_in k0) (place_in (seen (tx_in k0)) k0.keys k0.charge path) fault (tx_in k1) → Refuses volume (calls.Mkdir path) fault (record volume { tx = tx_in k1; down = down_after d fault })
-      by (No e) h = errs volume (record volume { tx = tx_in k1 }) (calls.Mkdir path) e (subst (λ r. GoesOn volume (lines.Call (calls.Mkdir path)) (answers.Reply (replies.Err e)) (record volume { tx = r })) (sym h.1) (mkdir_refused volume path e up h.0))
-      by (Device f) (inl h) = mkdir_unread volume path (record volume { tx = tx_in k1; down = Some (cause_of f) }) f up refl refl h
-      by (Device f) (inr h) = mkdir_falls volume path (record volume { tx = tx_in k1; down = Some (cause_of f) }) h.0 f up refl refl low few (place_fits (seen (tx_in k0)) k0.keys k0.charge path h.0 h.1) h.1 h.2
+  mkdir_not_made reply (No e) d1 h charge reply_is down = erred old k0 k1 o o d is up (calls.Mkdir path) e reply d1 reply_is down h.1 (by_parts k0 k1 keys pages charge chunks) refl (mkdir_refused volume path e up h.0)
+  mkdir_not_made reply (Device f) d1 (inl h) charge reply_is down =
+      unread old k0 k1 o o d is up (calls.Mkdir path) f reply d1 reply_is down awake (by_parts k0 k1 keys pages charge chunks) refl (λ live sh cause. any_cause live.world (calls.Mkdir path) refl refl refl cause) h
+  mkdir_not_made reply (Device f) d1 (inr h) charge reply_is down =
+      taken_down old k0 k1 o o d is up (calls.Mkdir path) f reply d1 reply_is down awake (by_parts k0 k1 keys pages charge chunks) refl (make_caused (tx_in k0) 1 (parent_of h.0) h.0.name f (tx_in k1).machine h.2)
+      (mkdir_falls volume path (record volume { tx = tx_in k1; down = Some (cause_of f) }) h.0 f up refl refl low few (place_fits (seen (tx_in k0)) k0.keys k0.charge path h.0 h.1) h.1 h.2)
 
 -- ---- a session that is down
-
-some_of : (d : Option Cause) → true ≡ is_some d → IsSome d
-some_of d e = sym e
-
-pub off_goes : (old : SessionState) (k0 : KfsState) (o : Opens) (d : Option Cause) (call : Call) → state_of k0 o d ≡ old → true ≡ is_some d → GoesOn old.volume (lines.Call call) (answers.Reply replies.Off) old.volume
-off_goes old k0 o d call is down = down_goes old.volume call (ap (λ (s : SessionState). is_some s.volume.down) (sym is) ∙ sym down)
-
-pub off_keeps : (old : SessionState) (k0 : KfsState) (o : Opens) (d : Option Cause) → state_of k0 o d ≡ old → true ≡ is_some d → IsSome old.volume.down × (old.volume ≡ old.volume)
-off_keeps old k0 o d is down = (subst (λ (s : SessionState). IsSome s.volume.down) is (some_of d down), refl)
 
 pub aged_none : (s : RunningState) → Aged s s (2 ^ 38)
 aged_none s = record { device = record { later = omega arith; bounded = omega arith }; whole = record { later = omega arith; bounded = omega arith } }
@@ -156,7 +140,9 @@ aged_by old k0 k1 o d n most is aged = subst (λ (s : SessionState). Aged (runni
     (record { device = record { later = aged.device.later; bounded = let h = aged.device.bounded in omega arith }; whole = record { later = aged.whole.later; bounded = let h = aged.whole.bounded in omega arith } })
 
 pub off_answers : (old : SessionState) (k0 : KfsState) (o : Opens) (d : Option Cause) (call : Call) → state_of k0 o d ≡ old → true ≡ is_some d → Answers old call replies.Off old
-off_answers old k0 o d call is down = record { goes_on = off_goes old k0 o d call is down; counts = (refl, refl); room = refl; down = off_keeps old k0 o d is down; age = aged_none _ }
+off_answers old k0 o d call is down =
+    let off : IsSome old.volume.down = ap (λ (s : SessionState). is_some s.volume.down) (sym is) ∙ sym down in
+    record { goes_on = down_goes old.volume call off; counts = (refl, refl); room = refl; down = (off, refl); age = aged_none _ }
 
 -- ---- what a call says, as one record
 
@@ -164,13 +150,7 @@ pub answers_of : (old : SessionState) (k0 k1 : KfsState) (o o1 : Opens) (d d1 : 
 answers_of old k0 k1 o o1 d d1 call reply n most is aged happens = record { goes_on = happens.goes; counts = happens.counts; room = happens.room; down = happens.keeps; age = aged_by old k0 k1 o d n most is aged }
 
 pub turned_answers : (old : SessionState) (k0 : KfsState) (o o1 : Opens) (d : Option Cause) (is : state_of k0 o d ≡ old) (up : d ≡ None) (call : Call) (reply : Reply) (r : Result Turn Errno) (turns : Turns o call r) (done : record { files = o1; reply = reply } ≡ turned o r) → Answers old call reply (state_of k0 o1 d)
-turned_answers old k0 o o1 d is up call reply r turns done =
-    answers_of old k0 k0 o o1 d d call reply (2 ^ 38) (omega arith) is (aged_none _) (record {
-      goes = turned_goes old k0 o o1 d is up call reply r turns done;
-      counts = turned_counts old k0 o o1 d is up call reply r turns done;
-      keeps = turned_keeps old k0 o o1 d is up call reply r turns done;
-      room = ap (λ (s : SessionState). limits_of s.volume) is;
-    })
+turned_answers old k0 o o1 d is up call reply r turns done = answers_of old k0 k0 o o1 d d call reply (2 ^ 38) (omega arith) is (aged_none _) (turned_happens old k0 o o1 d is up call reply r turns done)
 
 -- the same of another call
 pub named_answers : (old new : SessionState) (k j : Call) (reply : Reply) → k ≡ j → Answers old k reply new → Answers old j reply new
@@ -187,46 +167,20 @@ keys_in old k0 o d is small = subst (λ (s : SessionState). s.volume.keys ≤ 68
 
 -- ---- room
 
-pub room_goes : (b : Volume) → b.down ≡ None → GoesOn b (lines.Call calls.Room) (answers.Reply (replies.Room b.charge b.keys b.chunks b.pages)) b
+room_goes : (b : Volume) → b.down ≡ None → GoesOn b (lines.Call calls.Room) (answers.Reply (replies.Room b.charge b.keys b.chunks b.pages)) b
 room_goes b up = idle_goes b calls.Room (replies.Room b.charge b.keys b.chunks b.pages) up (λ w x. refl) refl (λ live sh. (λ i. record { world = live.world; reply = replies.Room (sym sh.charged i) b.keys (sym sh.chunked i) b.pages }))
-
-pub room_answered : (old : SessionState) (k0 : KfsState) (o : Opens) (d : Option Cause) (reply : Reply) → state_of k0 o d ≡ old → d ≡ None → reply ≡ replies.Room k0.charge k0.keys k0.chunks k0.pages → GoesOn old.volume (lines.Call calls.Room) (answers.Reply reply) old.volume
-room_answered old k0 o d reply is up e = subst (λ (s : SessionState). GoesOn s.volume (lines.Call calls.Room) (answers.Reply reply) s.volume) is (subst (λ r. GoesOn (volume_of k0 o d) (lines.Call calls.Room) (answers.Reply r) (volume_of k0 o d)) (sym e) (room_goes (volume_of k0 o d) up))
-
-pub room_quiet : (old : SessionState) (k0 : KfsState) (o : Opens) (d : Option Cause) (reply : Reply) → state_of k0 o d ≡ old → d ≡ None → reply ≡ replies.Room k0.charge k0.keys k0.chunks k0.pages → CountsFaults old.volume.tx.machine reply old.volume.tx.machine × KeepsCause old.volume reply old.volume
-room_quiet old k0 o d reply is up e =
-    let none : old.volume.down ≡ None = sym (ap (λ (s : SessionState). s.volume.down) is) ∙ up in
-    subst (λ r. CountsFaults old.volume.tx.machine r old.volume.tx.machine × KeepsCause old.volume r old.volume) (sym e) ((refl, refl), (none, none))
 
 pub room_answers : (old : SessionState) (k0 : KfsState) (o : Opens) (d : Option Cause) (reply : Reply) → state_of k0 o d ≡ old → d ≡ None → reply ≡ replies.Room k0.charge k0.keys k0.chunks k0.pages → Answers old calls.Room reply old
 room_answers old k0 o d reply is up e =
-    let quiet = room_quiet old k0 o d reply is up e in
-    record { goes_on = room_answered old k0 o d reply is up e; counts = quiet.0; room = refl; down = quiet.1; age = aged_none _ }
+    subst (Answers old calls.Room reply) is (subst (λ r. Answers old calls.Room r (state_of k0 o d)) (sym e)
+    (answers_of old k0 k0 o o d d calls.Room (replies.Room k0.charge k0.keys k0.chunks k0.pages) (2 ^ 38) (omega arith) is (aged_none _)
+    (idle old k0 k0 o d is up refl calls.Room (replies.Room k0.charge k0.keys k0.chunks k0.pages) tt refl (room_goes (volume_of k0 o d) up))))
 
 -- a descriptor that isn't open
-fsync_bad : (old : SessionState) (k0 : KfsState) (o : Opens) (d : Option Cause) (fd : ℕ) → state_of k0 o d ≡ old → d ≡ None → None ≡ open_at o fd → GoesOn old.volume (lines.Call (calls.Fsync fd)) (answers.Reply (replies.Err EBADF)) old.volume
-fsync_bad old k0 o d fd is up e =
-    let b = volume_of k0 o d in
-    subst (λ (s : SessionState). GoesOn s.volume (lines.Call (calls.Fsync fd)) (answers.Reply (replies.Err EBADF)) s.volume) is
-    (idle_goes b (calls.Fsync fd) (replies.Err EBADF) up (λ w x. refl) refl (λ live sh.
-    ap (λ desk. settled live.world (or_else (opened desk fd) EBADF >>= λ it. answered_by live.world replies.Done)) sh.desk
-    ∙ ap (λ x. settled live.world (or_else x EBADF >>= λ it. answered_by live.world replies.Done)) (opened_same o fd ∙ ap (option_map described) (sym e))))
-
 pub fsync_denied : (old : SessionState) (k0 : KfsState) (o : Opens) (d : Option Cause) (fd : ℕ) → state_of k0 o d ≡ old → d ≡ None → None ≡ open_at o fd → Answers old (calls.Fsync fd) (replies.Err EBADF) old
 fsync_denied old k0 o d fd is up e =
-    let none : old.volume.down ≡ None = sym (ap (λ (s : SessionState). s.volume.down) is) ∙ up in
-    record { goes_on = fsync_bad old k0 o d fd is up e; counts = (refl, refl); room = refl; down = (none, none); age = aged_none _ }
-
--- ---- what is told of a node
-
-pub dir_plain : (n : ℕ) → IsPlain (replies.Dir n)
-dir_plain n = plain (λ old new h. h) (λ old new a b. (a, b))
-
-pub file_plain : (n size : ℕ) → IsPlain (replies.File n size)
-file_plain n size = plain (λ old new h. h) (λ old new a b. (a, b))
-
-pub told_dir : (n kind size : ℕ) → kind ≡ 1 → replies.Dir n ≡ told_by (n, kind, size)
-told_dir n kind size e = let t : (kind == 1) ≡ true = grind (arith, nat_tests) in ap (λ b. cond b (replies.Dir n) (replies.File n size)) (sym t)
-
-pub told_file : (n kind size : ℕ) → kind ≢ 1 → replies.File n size ≡ told_by (n, kind, size)
-told_file n kind size e = let t : (kind == 1) ≡ false = grind (arith, nat_tests) in ap (λ b. cond b (replies.Dir n) (replies.File n size)) (sym t)
+    subst (Answers old (calls.Fsync fd) (replies.Err EBADF)) is
+    (answers_of old k0 k0 o o d d (calls.Fsync fd) (replies.Err EBADF) (2 ^ 38) (omega arith) is (aged_none _) (erred old k0 k0 o o d is up (calls.Fsync fd) EBADF (replies.Err EBADF) d refl refl refl refl refl
+    (idle_goes (volume_of k0 o d) (calls.Fsync fd) (replies.Err EBADF) up (λ w x. refl) refl (λ live sh.
+    ap (λ desk. settled live.world (or_else (opened desk fd) EBADF >>= λ it. answered_by live.world replies.Done)) sh.desk
+    ∙ ap (λ x. settled live.world (or_else x EBADF >>= λ it. answered_by live.world replies.Done)) (opened_same o fd ∙ ap (option_map described) (sym e))))).happens)

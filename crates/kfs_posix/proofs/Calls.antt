@@ -17,7 +17,7 @@ use Rattle.kfs_path.specs.declared.call.Cause.TheVariants.{Cut, Eio, NoMem}
 use Rattle.kfs_model.specs.declared.Line.TheVariants as lines
 use Rattle.kfs_model.specs.declared.Answer.TheVariants as answers
 use Rattle.kfs_model.specs.Ladder.{◌>>=◌}
-use Rattle.kfs_model.specs.Tree.{Tree, Limits, charge, chunks, has_room, IsTree}
+use Rattle.kfs_model.specs.Tree.{Tree, Limits, charge, has_room, IsTree}
 use Rattle.kfs_model.specs.Step.{World, After, settled, step, answers as answered_by}
 use Rattle.kfs_model.specs.Change.{weight, commits, is_boundary}
 use Rattle.kfs_model.specs.Life.{Live, live_after, live_with, can_fail}
@@ -33,27 +33,34 @@ use Rattle.kfs_core.proofs.Children.{list_same}
 use Rattle.kfs_core.proofs.Small.{commit_small}
 use Rattle.kfs_posix.specs.Volume.{Volume, limits_of, cause_of}
 use Rattle.kfs_posix.specs.Showing.{ShowsLive, IsWhole, GoesOn}
-use Rattle.kfs_posix.proofs.Rooms.{named_fits, both_true}
+use Rattle.kfs_posix.proofs.Rooms.{named_fits, room_of}
 use Rattle.kfs_posix.proofs.Going.{spare, spare_free, as_before, as_synced, idle_goes, fall_goes, up_goes, answered, Refuses}
 use Rattle.kfs_core.specs.declared.fault.CoreFault.TheVariants.{Device}
 
 pub stands_of : (b : Volume) (live : Live) → ShowsLive b live → Stands (seen b.tx) live.world.tree
 stands_of b live sh = record { tree = sh.tree; shows = sh.sees.tree; low = (let h = sh.low in omega arith) }
 
+-- a session on a device of few keys sees few objects
+pub few_seen : (b : Volume) (live : Live) → ShowsLive b live → b.keys < 2 ^ 32 → objects.len (seen b.tx) < 2 ^ 32
+few_seen b live sh small =
+    let le : charge live.world.tree ≤ b.keys = (room_of (limits_of b) live.world.tree sh.room).0 in
+    let few = few_objects (seen b.tx) live.world.tree sh.tree sh.sees.tree (let h = sh.low in omega arith) in
+    omega arith
+
 -- what is answered where nothing changes
 abbrev pub reply_of : Result Reply Errno → Reply
 reply_of (Ok reply) = reply
 reply_of (Err e) = replies.Err e
 
+settled_reply : (w : World) (r : Result Reply Errno) → settled w (r >>= answered_by w) ≡ record { world = w; reply = reply_of r }
+settled_reply w (Ok reply) = refl
+settled_reply w (Err e) = refl
+
 -- ---- stat
 
 pub stat_goes : (old : Volume) (path : List ℕ) (r : Result Reply Errno) → old.down ≡ None → stat_in (seen old.tx) path ≡ r → GoesOn old (lines.Call (calls.Stat path)) (answers.Reply (reply_of r)) old
 stat_goes old path r up is = idle_goes old (calls.Stat path) (reply_of r) up (λ w x. refl) refl (λ live sh.
-    ap (λ s. settled live.world (s >>= answered_by live.world)) (stat_same (seen old.tx) live.world.tree (stands_of old live sh) path ∙ is) ∙ by live r)
-  where
-    by : (live : Live) (r : Result Reply Errno) → settled live.world (r >>= answered_by live.world) ≡ record { world = live.world; reply = reply_of r }
-    by live (Ok reply) = refl
-    by live (Err e) = refl
+    ap (λ s. settled live.world (s >>= answered_by live.world)) (stat_same (seen old.tx) live.world.tree (stands_of old live sh) path ∙ is) ∙ settled_reply live.world r)
 
 can_read : (w : World) (call : Call) (r : Tx) (fault : DeviceFault) (new : Machine) → IsReady r → GetFault r fault new → can_fail w call Eio ≡ true → can_fail w call NoMem ≡ true → (cause : Cause) → cause ≡ cause_of fault → can_fail w call cause ≡ true
 can_read w call r NoTx new ready h eio nomem cause e = ap (can_fail w call) e ∙ nomem
@@ -119,11 +126,10 @@ sync_goes old up = commit_goes old calls.Sync up (λ w. refl) refl (λ live sh. 
 -- what shows a tree with room has room on the device
 pub room_for : (m : Objects) (t : Tree) (n : ℕ) (k : Limits) (d : Machine) → IsTree t → Shows m t n → t.next ≤ 2 ^ 63 → has_room k t ≡ true → k.keys ≡ d.room_keys → k.pages ≡ d.room_pages → fits_device d m ≡ true
 room_for m t n k d tree shows low room keys pages =
-    let h = both_true (nat_le (charge t) k.keys) (nat_le (chunks t) k.pages) room in
+    let c = (room_of k t room).0 in
+    let e = (room_of k t room).1 in
     let a = few_objects m t tree shows.tree low in
     let b = few_pages m t n tree shows low in
-    let c : charge t ≤ k.keys = grind (arith, nat_tests, h.0) in
-    let e : chunks t ≤ k.pages = grind (arith, nat_tests, h.1) in
     let f : nat_le (objects.len m) d.room_keys ≡ true = grind (arith, nat_tests) in
     let g : nat_le (page_count m) d.room_pages ≡ true = grind (arith, nat_tests) in
     λ i. (f i && g i)
@@ -134,13 +140,13 @@ any_cause w call cut eio nomem Eio = eio
 any_cause w call cut eio nomem NoMem = nomem
 
 -- a call of any kind that meets a fault before it changed anything
-pub unread_falls : (old new : Volume) (call : Call) (fault : DeviceFault) → ((w : World) (cause : Cause) → can_fail w call cause ≡ true) → old.down ≡ None → new.down ≡ Some (cause_of fault) → limits_of new ≡ limits_of old → GetFault old.tx fault new.tx.machine
-    → Refuses old call (Device fault) new
-unread_falls old new call fault can up down same h = fall_goes old new call fault up down same (λ live sh. record {
+pub unread_falls : (old new : Volume) (call : Call) (fault : DeviceFault) → old.down ≡ None → new.down ≡ Some (cause_of fault) → limits_of new ≡ limits_of old → ((live : Live) → ShowsLive old live → (cause : Cause) → can_fail live.world call cause ≡ true)
+    → GetFault old.tx fault new.tx.machine → Refuses old call (Device fault) new
+unread_falls old new call fault up down same can h = fall_goes old new call fault up down same (λ live sh. record {
   stands = old.tx.machine.stable;
   fallen = get_falls old.tx fault new.tx.machine sh.light.ready h;
   stood = as_before sh.saved;
-  can = λ cause e. can live.world cause;
+  can = λ cause e. can live sh cause;
 })
 
 pub commit_falls_in : (old new : Volume) (call : Call) (fault : DeviceFault) → old.down ≡ None → new.down ≡ Some (cause_of fault) → limits_of new ≡ limits_of old
@@ -170,11 +176,4 @@ none_of (Some c) e = absurd (cc)
 
 pub list_goes : (old : Volume) (path : List ℕ) (r : Result Reply Errno) → old.down ≡ None → old.keys < 2 ^ 32 → list_in (seen old.tx) path ≡ r → GoesOn old (lines.Call (calls.List path)) (answers.Reply (reply_of r)) old
 list_goes old path r up small is = idle_goes old (calls.List path) (reply_of r) up (λ w x. refl) refl (λ live sh.
-    let h = both_true (nat_le (charge live.world.tree) old.keys) (nat_le (chunks live.world.tree) old.pages) sh.room in
-    let le : charge live.world.tree ≤ old.keys = grind (arith, nat_tests, h.0) in
-    let few = few_objects (seen old.tx) live.world.tree sh.tree sh.sees.tree (let h = sh.low in omega arith) in
-    ap (λ s. settled live.world (s >>= answered_by live.world)) (list_same (seen old.tx) live.world.tree (stands_of old live sh) (omega arith) path ∙ is) ∙ by live r)
-  where
-    by : (live : Live) (r : Result Reply Errno) → settled live.world (r >>= answered_by live.world) ≡ record { world = live.world; reply = reply_of r }
-    by live (Ok reply) = refl
-    by live (Err e) = refl
+    ap (λ s. settled live.world (s >>= answered_by live.world)) (list_same (seen old.tx) live.world.tree (stands_of old live sh) (few_seen old live sh small) path ∙ is) ∙ settled_reply live.world r)

@@ -51,8 +51,8 @@ use Rattle.kfs_posix.proofs.Maps.{mapped, find-map}
 use Rattle.kfs_posix.proofs.Slots.{find_without}
 use Rattle.kfs_posix.proofs.Held.{world_in, description, described, opened_same, file_is, close_from, closed_same, closed_file, swept_whole}
 use Rattle.kfs_posix.proofs.Going.{spare, spare_free, turn_goes, up_goes, Refuses}
-use Rattle.kfs_posix.proofs.Calls.{stands_of}
-use Rattle.kfs_posix.proofs.Planned.{Planned, world_shown, planned_goes, planned_falls, early_falls, unread_at, change_caused}
+use Rattle.kfs_posix.proofs.Calls.{unread_falls, stands_of}
+use Rattle.kfs_posix.proofs.Planned.{Planned, world_shown, planned_goes, planned_falls, early_falls, change_caused}
 use Rattle.kfs_posix.proofs.Unnaming.{both_of, below_none, open_is, swept_kept, swept_knows}
 use Rattle.kfs_core.specs.declared.fault.CoreFault.TheVariants.{Device}
 use Rattle.kfs_posix.proofs.Changing.{or_false}
@@ -226,7 +226,7 @@ module _ (old : Volume) (fd : ℕ) (up : old.down ≡ None) where
             planned_falls old (deleted_in mid (orphan_key it.1.it.node)) (released_same old.tx it.1.it.node size mid goes) call (closed old.files fd it.0) (4 + chunks_for size) (old.charge - (2 + chunks_for size)) (old.chunks - chunks_for size) count up (planned size judged mid goes) new fault down limits can h
 
       pub release_unread : (new : Volume) (fault : DeviceFault) → new.down ≡ Some (cause_of fault) → limits_of new ≡ limits_of old → GetFault old.tx fault new.tx.machine → Refuses old call (Device fault) new
-      release_unread new fault down limits h = unread_at old new call fault up down limits can h
+      release_unread new fault down limits h = unread_falls old new call fault up down limits can h
 
       -- what is open is there, so it is released without an error
       pub release_never : (new : Volume) (e : Errno) (reply : Reply) → release_at (inode_in (seen old.tx) it.1.it.node) ≡ Err e → GoesOn old (lines.Call call) (answers.Reply reply) new

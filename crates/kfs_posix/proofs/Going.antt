@@ -72,6 +72,18 @@ spare_free b = find_over (spare b) b.files.files (let e : spare b ≤ spare b = 
 free : (b : Volume) (live : Live) (d : ℕ) → ShowsLive b live → find nat_cmp d b.files.files ≡ None → IsFree live.world d
 free b live d sh none = ap (λ (k : Desk). is_some (find nat_cmp d k.descriptions)) sh.desk ∙ ap is_some (find-map (λ (f : OpenFile). f.it) d b.files.files) ∙ ap (λ o. is_some (option_map (λ (f : OpenFile). f.it) o)) none
 
+-- where no count rose, the same is armed
+still_armed : (old new : Volume) (s : State) (to : Now) → new.tx.machine.cuts ≡ old.tx.machine.cuts → new.tx.machine.faults ≡ old.tx.machine.faults → SameBounds old.tx.machine new.tx.machine → ShowsNow new to → ShowsState old s → ShowsState new (with_now s to)
+still_armed old new s to cuts faults bounds shows showing = record {
+  now = shows;
+  cuts = let h = showing.cuts in let b = bounds.most_cuts in omega arith;
+  faults = let h = showing.faults in let b = bounds.most_faults in omega arith;
+  most_cuts = let h = showing.most_cuts in let b = bounds.most_cuts in omega arith;
+  most_faults = let h = showing.most_faults in let b = bounds.most_faults in omega arith;
+  few_cuts = let h = showing.few_cuts in let b = bounds.most_cuts in omega arith;
+  few_faults = let h = showing.few_faults in let b = bounds.most_faults in omega arith;
+}
+
 -- answered: the live state that follows is shown
 pub answered : (old new : Volume) (s : State) (live : Live) (call : Call) (reply : Reply) (d : ℕ) → find nat_cmp d old.files.files ≡ None → ShowsLive old live → reply ≡ (step (limits_of old) d live.world call).reply
     → ShowsLive new (live_after live call (step (limits_of old) d live.world call)) → new.tx.machine.cuts ≡ old.tx.machine.cuts → new.tx.machine.faults ≡ old.tx.machine.faults → SameBounds old.tx.machine new.tx.machine
@@ -80,15 +92,7 @@ answered old new s live call reply d none sh is shows cuts faults bounds = (
   with_now s (Up (live_after live call (step (limits_of old) d live.world call))),
   (d, free old live d sh none, inl (is, refl)),
   shows,
-  λ showing. record {
-    now = shows;
-    cuts = let h = showing.cuts in let b = bounds.most_cuts in omega arith;
-    faults = let h = showing.faults in let b = bounds.most_faults in omega arith;
-    most_cuts = let h = showing.most_cuts in let b = bounds.most_cuts in omega arith;
-    most_faults = let h = showing.most_faults in let b = bounds.most_faults in omega arith;
-    few_cuts = let h = showing.few_cuts in let b = bounds.most_cuts in omega arith;
-    few_faults = let h = showing.few_faults in let b = bounds.most_faults in omega arith;
-  },
+  still_armed old new s (Up (live_after live call (step (limits_of old) d live.world call))) cuts faults bounds shows,
 )
 
 -- a call that changes nothing
@@ -115,13 +119,6 @@ change_goes_at old new call reply n d none up cuts faults bounds did = up_goes o
     ∙ ap (λ (o : Option ℕ). live_with live it.0 o (is_boundary live.since call reply o)) it.2
     ∙ (λ i. live_with live it.0 (Some n) (is_full (sym sh.changes i + 1) (sym sh.weight i + n))) in
     answered old new s live call reply d none sh (sym (ap (λ (a : After). a.reply) it.1)) (subst (ShowsLive new) (sym same) it.3) cuts faults bounds)
-
-pub change_goes : (old new : Volume) (call : Call) (reply : Reply) (n : ℕ) → old.down ≡ None → ((w x : World) → weight w call (record { world = x; reply = reply }) ≡ Some n)
-    → new.tx.machine.cuts ≡ old.tx.machine.cuts → new.tx.machine.faults ≡ old.tx.machine.faults → SameBounds old.tx.machine new.tx.machine
-    → ((live : Live) → ShowsLive old live → (w : World) × (step (limits_of old) (spare old) live.world call ≡ record { world = w; reply = reply }) × ShowsLive new (live_with live w (Some n) (is_full (old.tx.since + 1) (old.tx.weight + n))))
-    → GoesOn old (lines.Call call) (answers.Reply reply) new
-change_goes old new call reply n up weighs cuts faults bounds did =
-    change_goes_at old new call reply n (spare old) (spare_free old) up cuts faults bounds (λ live sh. let it = did live sh in (it.0, it.1, weighs live.world it.0, it.2))
 
 -- a call that changes nothing but the open files; d is the number of the description that it makes
 pub turn_goes : (old : Volume) (files : Opens) (call : Call) (reply : Reply) (d : ℕ) → find nat_cmp d old.files.files ≡ None → old.down ≡ None → commits call reply ≡ false
@@ -292,15 +289,7 @@ fall_goes old new call fault up down same fell = record { goes = goes; answerabl
       disarmed s NoMem to,
       (NoMem, refl, both_true true (can_fail live.world call NoMem) refl (can NoMem refl), refl),
       shows NoMem down,
-      λ showing. record {
-        now = shows NoMem down;
-        cuts = let h = showing.cuts in let b = bounds.most_cuts in let f = cause.0 in omega arith;
-        faults = let h = showing.faults in let b = bounds.most_faults in let f = cause.1 in omega arith;
-        most_cuts = let h = showing.most_cuts in let b = bounds.most_cuts in let f = cause.0 in omega arith;
-        most_faults = let h = showing.most_faults in let b = bounds.most_faults in let f = cause.1 in omega arith;
-        few_cuts = let h = showing.few_cuts in let b = bounds.most_cuts in omega arith;
-        few_faults = let h = showing.few_faults in let b = bounds.most_faults in omega arith;
-      },
+      still_armed old new s to cause.0 cause.1 bounds (shows NoMem down),
     )
 
     goes : GoesOn old (lines.Call call) (answers.Reply (replies.Down (cause_of fault))) new

@@ -15,8 +15,7 @@ use Rattle.kfs_model.specs.Tree.{Place, with_new, number_at}
 use Rattle.kfs_model.specs.Step.{syntax, settled, mkdir_at, leaves}
 use Rattle.kfs_model.specs.Life.{Live}
 use Rattle.kfs_shows.proofs.Making.{fresh_dir}
-use Rattle.kfs_tx.specs.Tx.{GetFault, seen}
-use Rattle.kfs_tx.proofs.Falling.{get_falls}
+use Rattle.kfs_tx.specs.Tx.{seen}
 use Rattle.kfs_core.specs.Flat.{Where, at_root, walk_in, place_in}
 use Rattle.kfs_core.specs.Making.{parent_of, made, MakeFault}
 use Rattle.kfs_core.proofs.Ways.{IsSpot}
@@ -26,7 +25,7 @@ use Rattle.kfs_posix.proofs.Held.{new_holds}
 use Rattle.kfs_posix.proofs.Adding.{Adds, add_goes, add_falls}
 use Rattle.kfs_core.proofs.Adding.{free_place}
 use Rattle.kfs_posix.specs.Showing.{ShowsLive, GoesOn}
-use Rattle.kfs_posix.proofs.Going.{spare, spare_free, as_before, idle_goes, fall_goes, Refuses}
+use Rattle.kfs_posix.proofs.Going.{spare, spare_free, idle_goes, Refuses}
 use Rattle.kfs_posix.proofs.Calls.{stands_of, any_cause}
 use Rattle.kfs_core.specs.declared.fault.CoreFault.TheVariants.{Device}
 
@@ -80,14 +79,6 @@ module _ (old : Volume) (path : List ℕ) where
   pub mkdir_refused : (e : Errno) → old.down ≡ None → place_in (seen old.tx) old.keys old.charge path ≡ Err e → GoesOn old (lines.Call (calls.Mkdir path)) (answers.Reply (replies.Err e)) old
   mkdir_refused e up is = idle_goes old (calls.Mkdir path) (replies.Err e) up (λ w x. refl) refl (λ live sh.
       ap (λ (r : Result Place Errno). settled live.world (r >>= λ place. leaves live.world (with_new live.world.tree place Dir) replies.Done)) (judged_err live sh (mkdir_at (limits_of old) live.world.tree path) (place_in (seen old.tx) old.keys old.charge path) e (same_place live sh) is))
-
-  pub mkdir_unread : (new : Volume) (fault : DeviceFault) → old.down ≡ None → new.down ≡ Some (cause_of fault) → limits_of new ≡ limits_of old → GetFault old.tx fault new.tx.machine → Refuses old (calls.Mkdir path) (Device fault) new
-  mkdir_unread new fault up down same h = fall_goes old new (calls.Mkdir path) fault up down same (λ live sh. record {
-    stands = old.tx.machine.stable;
-    fallen = get_falls old.tx fault new.tx.machine sh.light.ready h;
-    stood = as_before sh.saved;
-    can = λ cause e. any_cause live.world (calls.Mkdir path) refl refl refl cause;
-  })
 
   pub mkdir_falls : (new : Volume) (w : Where) (fault : DeviceFault) → old.down ≡ None → new.down ≡ Some (cause_of fault) → limits_of new ≡ limits_of old → old.tx.next + 1 < 2 ^ 63 → old.tx.changes + 1 < 2 ^ 63 → old.charge + 2 ≤ old.keys → place_in (seen old.tx) old.keys old.charge path ≡ Ok w
       → MakeFault old.tx (parent_of w) w.name fault new.tx.machine → Refuses old (calls.Mkdir path) (Device fault) new

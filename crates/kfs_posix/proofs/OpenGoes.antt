@@ -17,7 +17,7 @@ use Rattle.kfs_model.specs.Desk.{Desk}
 use Rattle.kfs_model.specs.Change.{node_open}
 use Rattle.kfs_model.specs.Life.{Live}
 use Rattle.kfs_shows.proofs.Making.{fresh_file}
-use Rattle.kfs_tx.specs.Tx.{seen, GetFault}
+use Rattle.kfs_tx.specs.Tx.{seen}
 use Rattle.kfs_core.specs.declared.room.Space.{Space}
 use Rattle.kfs_core.proofs.ResizingJudges.{charge_resized, chunks_resized}
 use Rattle.kfs_core.specs.Flat.{Where}
@@ -36,7 +36,7 @@ use Rattle.kfs_posix.proofs.ResizeGoes.{Lengthens}
 use Rattle.kfs_posix.proofs.ResizeEvents.{length_weighs, length_holds}
 use Rattle.kfs_posix.proofs.Adding.{Adds, add_goes, add_falls}
 use Rattle.kfs_posix.proofs.Going.{spare, spare_free, idle_goes, turn_goes, Refuses}
-use Rattle.kfs_posix.proofs.Calls.{stands_of, any_cause, unread_falls}
+use Rattle.kfs_posix.proofs.Calls.{stands_of, any_cause}
 use Rattle.kfs_core.specs.declared.fault.CoreFault.TheVariants.{Device}
 
 module _ (old : Volume) (path : List ℕ) (flags : Flags) where
@@ -133,9 +133,6 @@ module _ (old : Volume) (path : List ℕ) (flags : Flags) where
         short = omega arith;
         room = (λ i. nat_le (charge_resized t sh.tree n h.0 h.3 0 i) old.keys && nat_le (chunks_resized t sh.tree n h.0 h.3 0 i) old.pages) ∙ cut_fits (limits_of old) t sh.room (length h.0);
       }
-
-  pub open_unread : (new : Volume) (fault : DeviceFault) → old.down ≡ None → new.down ≡ Some (cause_of fault) → limits_of new ≡ limits_of old → GetFault old.tx fault new.tx.machine → Refuses old call (Device fault) new
-  open_unread new fault up down same h = unread_falls old new call fault (λ w cause. any_cause w call refl refl refl cause) up down same h
 
   pub open_falls : (new : Volume) (fd : ℕ) (v : Where) (fault : DeviceFault) → old.down ≡ None → new.down ≡ Some (cause_of fault) → limits_of new ≡ limits_of old → old.tx.next + 1 < 2 ^ 63 → old.tx.changes + 1 < 2 ^ 63 → judge ≡ Ok (New v fd)
       → CreateFault old.tx (parent_of v) v.name fault new.tx.machine → Refuses old call (Device fault) new

@@ -6,19 +6,20 @@ use Rattle.kv_device.specs.Machine.{Machine}
 use Rattle.kv_device.specs.Objects.{Objects}
 use Rattle.kfs_path.specs.declared.call.Call.{Call}
 use Rattle.kfs_path.specs.declared.call.Cause.{Cause}
+use Rattle.kfs_path.specs.declared.call.Reply.{Reply}
 use Rattle.kfs_path.specs.declared.call.Reply.TheVariants as replies
 use Rattle.kfs_model.specs.declared.Line.TheVariants as lines
 use Rattle.kfs_model.specs.declared.Answer.TheVariants as answers
-use Rattle.kfs_model.specs.Tree.{Tree}
+use Rattle.kfs_model.specs.Tree.{Tree, charge, chunks}
 use Rattle.kfs_model.specs.Desk.{Desk, is_open}
-use Rattle.kfs_model.specs.Step.{World, After}
+use Rattle.kfs_model.specs.Step.{World, After, step}
 use Rattle.kfs_model.specs.Change.{weight, is_boundary}
 use Rattle.kfs_model.specs.Life.{Live, can_fail}
 use Rattle.kfs_shows.specs.Sweeping.{ShowsWorld}
 use Rattle.kfs_shows.proofs.Sweeping.{nameless_test}
-use Rattle.kfs_tx.specs.Tx.{Tx, SameBounds, Caused, HasCause, Fallen, ChangeFault, GetFault, seen, committed, counted, one_change, with_super, is_full}
-use Rattle.kfs_tx.proofs.Falling.{change_falls, get_falls}
-use Rattle.kfs_file.specs.Contents.{Fails, pending_of}
+use Rattle.kfs_tx.specs.Tx.{Tx, SameBounds, Caused, HasCause, Fallen, ChangeFault, seen, committed, counted, one_change, with_super, is_full}
+use Rattle.kfs_tx.proofs.Falling.{change_falls}
+use Rattle.kfs_file.specs.Contents.{FailsWithin, pending_of}
 use Rattle.kfs_file.proofs.Failing.{cause_before}
 use Rattle.kfs_core.proofs.Plans.{Plan}
 use Rattle.kfs_posix.specs.Opens.{Opens, desk_of}
@@ -111,6 +112,32 @@ plan_put old live sh mid desk call n c p count plan = record {
   room = plan.room;
 }
 
+-- a fault in the boundary of a change that put what it should
+module _ (old new : Volume) (live : Live) (sh : ShowsLive old live) (mid : Tx) (same : mid ≡ pending_of mid old.tx) (t : Tree) (n next c p : ℕ) (put : IsPut old mid t n next) (charge_is : c ≡ charge t) (chunks_is : p ≡ chunks t) (files : Opens) (holds : Holds files t)
+    (call : Call) (reply : Reply) (fault : DeviceFault) (step_is : step (limits_of old) (spare old) live.world call ≡ record { world = record { tree = t; desk = desk_of files }; reply = reply })
+    (weighs : weight live.world call (record { world = record { tree = t; desk = desk_of files }; reply = reply }) ≡ Some n) (few : n ≤ 260) (can : (cause : Cause) → can_fail live.world call cause ≡ true) where
+  pub boundary_fell : ChangeFault mid n next fault new.tx.machine → Fell old new live call fault
+  boundary_fell h =
+      let shows = sees old live sh mid t n next c p put charge_is chunks_is files holds in
+      let saved = to_save old live sh mid t n next c p put charge_is chunks_is files holds in
+      let room = room_for (seen (with_super mid next)) t (live.past.count + 1) (limits_of old) mid.machine put.tree shows (let h = put.low in omega arith) put.room (sh.keys ∙ sym put.bounds.room_keys) (sh.pages ∙ sym put.bounds.room_pages) in
+      elim (change_falls mid n next fault new.tx.machine put.ready (let f = put.few in let l = sh.light.light in omega arith) room h) [
+        | inl f ↦ record {
+          stands = old.tx.machine.stable;
+          fallen = fallen_from old.tx mid fault old.tx.machine.stable new.tx.machine same f.cause (f.stable ∙ put.stable) f.bounds;
+          stood = as_before sh.saved;
+          can = λ cause e. can cause;
+        }
+        | inr y ↦ record {
+          stands = seen (with_super mid next);
+          fallen = fallen_from old.tx mid fault (seen (with_super mid next)) new.tx.machine same y.1.cause y.1.stable y.1.bounds;
+          stood = as_after n (ap (weight live.world call) step_is ∙ weighs)
+              (ap (λ (a : After). is_boundary live.since call a.reply (Some n)) step_is ∙ (λ i. is_full (sym sh.changes i + 1) (sym sh.weight i + n)) ∙ (λ i. is_full (sym put.since i + 1) (sym put.weight i + n)) ∙ y.0)
+              (subst (λ (t : Tree). IsWhole (limits_of old) (seen (with_super mid next)) t (live.past.count + 1)) (ap (λ (a : After). a.world.tree) (sym step_is)) saved);
+          can = λ cause e. can cause;
+        }
+      ]
+
 -- a plan with the open files after the call
 pub record Planned (old : Volume) (mid : Tx) (call : Call) (files : Opens) (n c p : ℕ) (live : Live) : Type 0 where
   pub plan : Plan old.tx mid (limits_of old) live.world (desk_of files) call n c p
@@ -121,64 +148,36 @@ module _ (old : Volume) (mid : Tx) (same : mid ≡ pending_of mid old.tx) (call 
   world_is : (live : Live) (x : Planned old mid call files n c p live) → x.plan.world ≡ record { tree = x.plan.world.tree; desk = desk_of files }
   world_is live x = λ i. record { tree = x.plan.world.tree; desk = x.plan.desk i }
 
+  planned_steps : (live : Live) (x : Planned old mid call files n c p live) → step (limits_of old) (spare old) live.world call ≡ record { world = record { tree = x.plan.world.tree; desk = desk_of files }; reply = replies.Done }
+  planned_steps live x = x.plan.steps (spare old) ∙ (λ i. record { world = world_is live x i; reply = replies.Done })
+
+  planned_weighs : (live : Live) (x : Planned old mid call files n c p live) → weight live.world call (record { world = record { tree = x.plan.world.tree; desk = desk_of files }; reply = replies.Done }) ≡ Some n
+  planned_weighs live x = ap (λ (u : World). weight live.world call (record { world = u; reply = replies.Done })) (sym (world_is live x)) ∙ x.plan.weighs
+
   pub planned_goes : GoesOn old (lines.Call call) (answers.Reply replies.Done) (record old { tx = one_change mid n mid.next; charge = c; chunks = p; files = files })
   planned_goes =
       let m = changed_same old.tx mid same n mid.next in
       change_goes_at old (record old { tx = one_change mid n mid.next; charge = c; chunks = p; files = files }) call replies.Done n (spare old) (spare_free old) up m.cuts m.faults (changed_bounds old.tx mid same n mid.next) (λ live sh.
       let x = planned live sh in (
         record { tree = x.plan.world.tree; desk = desk_of files },
-        x.plan.steps (spare old) ∙ (λ i. record { world = world_is live x i; reply = replies.Done }),
-        ap (λ (u : World). weight live.world call (record { world = u; reply = replies.Done })) (sym (world_is live x)) ∙ x.plan.weighs,
+        planned_steps live x,
+        planned_weighs live x,
         change_shown old live sh mid x.plan.world.tree n mid.next c p (plan_put old live sh mid (desk_of files) call n c p count x.plan) x.plan.charged x.plan.chunked files x.holds,
       ))
 
   -- where the change was counted
   pub planned_falls : (new : Volume) (fault : DeviceFault) → new.down ≡ Some (cause_of fault) → limits_of new ≡ limits_of old → ((live : Live) → ShowsLive old live → (cause : Cause) → can_fail live.world call cause ≡ true)
       → ChangeFault mid n mid.next fault new.tx.machine → Refuses old call (Device fault) new
-  planned_falls new fault down limits can h = fall_goes old new call fault up down limits fell
-    where
-      fell : (live : Live) → ShowsLive old live → Fell old new live call fault
-      fell live sh =
-          let x = planned live sh in
-          let tree = x.plan.world.tree in
-          let put = plan_put old live sh mid (desk_of files) call n c p count x.plan in
-          let shows = sees old live sh mid tree n mid.next c p put x.plan.charged x.plan.chunked files x.holds in
-          let saved = to_save old live sh mid tree n mid.next c p put x.plan.charged x.plan.chunked files x.holds in
-          let room = room_for (seen (with_super mid mid.next)) tree (live.past.count + 1) (limits_of old) mid.machine put.tree shows (let h = put.low in omega arith) put.room (sh.keys ∙ sym put.bounds.room_keys) (sh.pages ∙ sym put.bounds.room_pages) in
-          let step_is = x.plan.steps (spare old) in
-          elim (change_falls mid n mid.next fault new.tx.machine put.ready (let f = put.few in let l = sh.light.light in let w = x.plan.light in omega arith) room h) [
-            | inl f ↦ record {
-              stands = old.tx.machine.stable;
-              fallen = fallen_from old.tx mid fault old.tx.machine.stable new.tx.machine same f.cause (f.stable ∙ put.stable) f.bounds;
-              stood = as_before sh.saved;
-              can = λ cause e. can live sh cause;
-            }
-            | inr y ↦ record {
-              stands = seen (with_super mid mid.next);
-              fallen = fallen_from old.tx mid fault (seen (with_super mid mid.next)) new.tx.machine same y.1.cause y.1.stable y.1.bounds;
-              stood = as_after n (ap (weight live.world call) step_is ∙ x.plan.weighs)
-                  (ap (λ (a : After). is_boundary live.since call a.reply (Some n)) step_is ∙ (λ i. is_full (sym sh.changes i + 1) (sym sh.weight i + n)) ∙ (λ i. is_full (sym put.since i + 1) (sym put.weight i + n)) ∙ y.0)
-                  (subst (λ (t : Tree). IsWhole (limits_of old) (seen (with_super mid mid.next)) t (live.past.count + 1)) (ap (λ (a : After). a.world.tree) (sym step_is)) saved);
-              can = λ cause e. can live sh cause;
-            }
-          ]
+  planned_falls new fault down limits can h = fall_goes old new call fault up down limits (λ live sh.
+      let x = planned live sh in
+      boundary_fell old new live sh mid same x.plan.world.tree n mid.next c p (plan_put old live sh mid (desk_of files) call n c p count x.plan) x.plan.charged x.plan.chunked files x.holds call replies.Done fault (planned_steps live x) (planned_weighs live x) x.plan.light (can live sh) h)
 
 -- before any of the change was counted
 pub early_falls : (old new : Volume) (call : Call) (m : ℕ) (fault : DeviceFault) → old.down ≡ None → new.down ≡ Some (cause_of fault) → limits_of new ≡ limits_of old → ((live : Live) → ShowsLive old live → (cause : Cause) → can_fail live.world call cause ≡ true)
-    → ((live : Live) → ShowsLive old live → m ≤ 260) → Fails old.tx m fault new.tx.machine → Refuses old call (Device fault) new
+    → ((live : Live) → ShowsLive old live → m ≤ 260) → FailsWithin old.tx m fault new.tx.machine → Refuses old call (Device fault) new
 early_falls old new call m fault up down limits can few h = fall_goes old new call fault up down limits (λ live sh. record {
   stands = old.tx.machine.stable;
   fallen = h.fallen sh.light.ready (let a = few live sh in let b = sh.light.few in let c = sh.light.light in omega arith);
-  stood = as_before sh.saved;
-  can = λ cause e. can live sh cause;
-})
-
--- before anything was asked of the transaction but to read
-pub unread_at : (old new : Volume) (call : Call) (fault : DeviceFault) → old.down ≡ None → new.down ≡ Some (cause_of fault) → limits_of new ≡ limits_of old → ((live : Live) → ShowsLive old live → (cause : Cause) → can_fail live.world call cause ≡ true)
-    → GetFault old.tx fault new.tx.machine → Refuses old call (Device fault) new
-unread_at old new call fault up down limits can h = fall_goes old new call fault up down limits (λ live sh. record {
-  stands = old.tx.machine.stable;
-  fallen = get_falls old.tx fault new.tx.machine sh.light.ready h;
   stood = as_before sh.saved;
   can = λ cause e. can live sh cause;
 })

@@ -2,7 +2,6 @@
 use Rattle.std.proofs.Common.{◌≡◌, ℕ, ◌<◌, ◌≤◌, ◌+◌, ◌-◌, ◌^◌, true, false, not, min, Bool, refl, sym, ◌∙◌, ap, subst, arith, List, length, drop, Option, Some, None, Result, Ok, Err, nat_lt, ℤ}
 use Rattle.std.specs.Option.{option_map}
 use Rattle.std.proofs.lemmas.List.{length-take, length-drop}
-use Rattle.kv_device.specs.declared.fault.DeviceFault.{DeviceFault}
 use Rattle.kfs_path.specs.declared.call.Call.{Call}
 use Rattle.kfs_path.specs.declared.call.Call.TheVariants as calls
 use Rattle.kfs_path.specs.declared.call.Errno.{Errno}
@@ -17,22 +16,22 @@ use Rattle.kfs_model.specs.declared.Answer.TheVariants as answers
 use Rattle.kfs_model.specs.Ladder.{◌>>=◌, ◌>>◌, ◌when◌}
 use Rattle.kfs_model.specs.Tree.{Tree, node_of, greatest_length}
 use Rattle.kfs_model.specs.Desk.{with_description}
-use Rattle.kfs_model.specs.Step.{settled, step, or_else, readable, is_open_dir, piece_at, content, with_desk, with_offset, is_negative, natural, greatest_count, answers as answered_by}
+use Rattle.kfs_model.specs.Step.{World, After, settled, step, or_else, readable, is_open_dir, piece_at, content, with_desk, with_offset, is_negative, natural, greatest_count, answers as answered_by}
 use Rattle.kfs_model.specs.Life.{Live}
-use Rattle.kfs_tx.specs.Tx.{seen, GetFault}
+use Rattle.kfs_tx.specs.Tx.{seen}
 use Rattle.kfs_core.specs.Files.{Reads}
-use Rattle.kfs_core.specs.declared.fault.CoreFault.TheVariants.{No, Device}
+use Rattle.kfs_core.specs.declared.fault.CoreFault.TheVariants.{No}
 use Rattle.kfs_core.proofs.FileJudges.{content_is, reads_piece, reads_always}
 use Rattle.kfs_posix.specs.declared.open_files.OpenFile.{OpenFile}
 use Rattle.kfs_posix.specs.Opens.{Opens, open_at, desk_of, with_file}
 use Rattle.kfs_posix.specs.Holding.{Holds, Knows, is_file}
 use Rattle.kfs_posix.specs.Turning.{at_offset}
 use Rattle.kfs_posix.specs.Reading.{readable_in, readable_at}
-use Rattle.kfs_posix.specs.Volume.{Volume, limits_of, cause_of}
+use Rattle.kfs_posix.specs.Volume.{Volume, limits_of}
 use Rattle.kfs_posix.specs.Showing.{ShowsLive, GoesOn}
 use Rattle.kfs_posix.proofs.Held.{world_in, described, opened_same, file_is, with_file_desk, file_holds, moved_knows}
-use Rattle.kfs_posix.proofs.Going.{spare, spare_free, idle_goes, turn_goes, up_goes, Refuses}
-use Rattle.kfs_posix.proofs.Calls.{stands_of, read_falls}
+use Rattle.kfs_posix.proofs.Going.{spare, spare_free, idle_goes, turn_goes, up_goes}
+use Rattle.kfs_posix.proofs.Calls.{stands_of}
 
 -- ---- the judge
 
@@ -53,6 +52,18 @@ tests_in a b c it = (EBADF when a) >> ((EISDIR when b) >> ((EINVAL when c) >> Ok
 abbrev pub as_described : Result (ℕ × OpenFile) Errno → Result (ℕ × Description) Errno
 as_described (Ok it) = Ok (described it)
 as_described (Err e) = Err e
+
+-- judged first, and then by a place
+pub parted : {X : Type 0} (r : Result X Errno) (b : Bool) (x : X) → (r >>= λ it. (EINVAL when b) >> Ok it) ≡ Ok x → (r ≡ Ok x) × (b ≡ false)
+parted (Err f) b x e = absurd (cc)
+parted (Ok y) true x e = absurd (cc)
+parted (Ok y) false x e = (e, refl)
+
+pub refused_at : (w : World) (r : Result (ℕ × OpenFile) Errno) (b : Bool) (does : ℕ × Description → Result After Errno) (e : Errno) → (r >>= λ it. (EINVAL when b) >> Ok it) ≡ Err e
+    → settled w (as_described r >>= λ it. (EINVAL when b) >> does it) ≡ record { world = w; reply = replies.Err e }
+refused_at w (Err f) b does e is = let same : f ≡ e = cc in ap (λ x. record { world = w; reply = replies.Err x }) same
+refused_at w (Ok x) true does e is = let same : EINVAL ≡ e = cc in ap (λ x. record { world = w; reply = replies.Err x }) same
+refused_at w (Ok x) false does e is = absurd (cc)
 
 pub readable_same : (t : Tree) (o : Opens) (fd count : ℕ) → Holds o t → readable (world_in t o) fd count ≡ as_described (readable_in o fd count)
 readable_same t o fd count holds =
@@ -176,20 +187,9 @@ module _ (old : Volume) (fd count : ℕ) where
   pub read_never : (it : ℕ × OpenFile) (place : ℕ) (e : Errno) (call : Call) (reply : Reply) (new : Volume) → old.down ≡ None → readable_in o fd count ≡ Ok it → Reads (seen old.tx) it.1.it.node place count (Err (No e)) → GoesOn old (lines.Call call) (answers.Reply reply) new
   read_never it place e call reply new up judged reads = up_goes old new call reply up (λ s live showing sh. absurd (never it place e judged reads live sh))
 
-  pub read_unread : (new : Volume) (fault : DeviceFault) → old.down ≡ None → new.down ≡ Some (cause_of fault) → limits_of new ≡ limits_of old → GetFault old.tx fault new.tx.machine → Refuses old (calls.Read fd count) (Device fault) new
-  read_unread new fault up down same h = read_falls old new (calls.Read fd count) fault (λ w. refl) (λ w. refl) up down same h
-
   -- ---- pread
 
   module _ (offset : ℤ) where
-    parted : (it : ℕ × OpenFile) → readable_at o fd count offset ≡ Ok it → (readable_in o fd count ≡ Ok it) × (is_negative offset ≡ false)
-    parted it e = by (readable_in o fd count) (is_negative offset) refl e
-      where
-        by : (r : Result (ℕ × OpenFile) Errno) (b : Bool) → is_negative offset ≡ b → (r >>= λ it. (EINVAL when b) >> Ok it) ≡ Ok it → (r ≡ Ok it) × (is_negative offset ≡ false)
-        by (Err f) b n e = absurd (cc)
-        by (Ok x) true n e = absurd (cc)
-        by (Ok x) false n e = (e, n)
-
     pstepped : (d : ℕ) (live : Live) (sh : ShowsLive old live)
         → step (limits_of old) d live.world (calls.Pread fd count offset)
         ≡ settled (world_in live.world.tree o) (as_described (readable_in o fd count) >>= λ it. (EINVAL when is_negative offset) >> answered_by (world_in live.world.tree o) (replies.Read (piece_at (content live.world.tree it.1.node) (natural offset) count)))
@@ -201,27 +201,15 @@ module _ (old : Volume) (fd count : ℕ) where
 
     pub pread_refused : (e : Errno) → old.down ≡ None → readable_at o fd count offset ≡ Err e → GoesOn old (lines.Call (calls.Pread fd count offset)) (answers.Reply (replies.Err e)) old
     pread_refused e up is = idle_goes old (calls.Pread fd count offset) (replies.Err e) up (λ w x. refl) refl (λ live sh.
-        pstepped (spare old) live sh ∙ by live (readable_in o fd count) (is_negative offset) is ∙ (λ i. record { world = record { tree = live.world.tree; desk = sym sh.desk i }; reply = replies.Err e }))
-      where
-        by : (live : Live) (r : Result (ℕ × OpenFile) Errno) (b : Bool) → (r >>= λ it. (EINVAL when b) >> Ok it) ≡ Err e
-            → settled (world_in live.world.tree o) (as_described r >>= λ it. (EINVAL when b) >> answered_by (world_in live.world.tree o) (replies.Read (piece_at (content live.world.tree it.1.node) (natural offset) count))) ≡ record { world = world_in live.world.tree o; reply = replies.Err e }
-        by live (Err f) b e' = let same : f ≡ e = cc in ap (λ x. record { world = world_in live.world.tree o; reply = replies.Err x }) same
-        by live (Ok x) true e' = let same : EINVAL ≡ e = cc in ap (λ x. record { world = world_in live.world.tree o; reply = replies.Err x }) same
-        by live (Ok x) false e' = absurd (cc)
+        pstepped (spare old) live sh ∙ refused_at (world_in live.world.tree o) (readable_in o fd count) (is_negative offset) _ e is ∙ (λ i. record { world = record { tree = live.world.tree; desk = sym sh.desk i }; reply = replies.Err e }))
 
     pub pread_goes : (it : ℕ × OpenFile) (text : List ℕ) → old.down ≡ None → readable_at o fd count offset ≡ Ok it → Reads (seen old.tx) it.1.it.node (natural offset) count (Ok text)
         → GoesOn old (lines.Call (calls.Pread fd count offset)) (answers.Reply (replies.Read text)) old
     pread_goes it text up judged reads = idle_goes old (calls.Pread fd count offset) (replies.Read text) up (λ w x. refl) refl (λ live sh.
         let t = live.world.tree in
         let w = world_in t o in
-        let both = parted it judged in
+        let both = parted (readable_in o fd count) (is_negative offset) it judged in
         let x = reading it (natural offset) text both.0 reads live sh in
         pstepped (spare old) live sh
         ∙ (λ i. settled w (as_described (both.0 i) >>= λ it. (EINVAL when both.1 i) >> answered_by w (replies.Read (piece_at (content t it.1.node) (natural offset) count))))
         ∙ (λ i. record { world = record { tree = t; desk = sym sh.desk i }; reply = replies.Read (x.piece i) }))
-
-    pub pread_unread : (new : Volume) (fault : DeviceFault) → old.down ≡ None → new.down ≡ Some (cause_of fault) → limits_of new ≡ limits_of old → GetFault old.tx fault new.tx.machine → Refuses old (calls.Pread fd count offset) (Device fault) new
-    pread_unread new fault up down same h = read_falls old new (calls.Pread fd count offset) fault (λ w. refl) (λ w. refl) up down same h
-
-    pub pread_first : (it : ℕ × OpenFile) → readable_at o fd count offset ≡ Ok it → readable_in o fd count ≡ Ok it
-    pread_first it e = (parted it e).0

@@ -1,7 +1,6 @@
 -- `rename` of a session, by what it did.
-use Rattle.std.proofs.Common.{◌≡◌, ℕ, ◌<◌, ◌+◌, ◌-◌, ◌^◌, inl, inr, true, refl, sym, ◌∙◌, ap, subst, List, Option, Some, None, Result, Ok}
+use Rattle.std.proofs.Common.{◌≡◌, ℕ, ◌+◌, ◌-◌, inl, inr, true, refl, ◌∙◌, ap, subst, List, Option, Some, None, Result, Ok}
 use Rattle.std.specs.Option.{option_and_then}
-use Rattle.kv_device.specs.Machine.{Machine}
 use Rattle.kfs_path.specs.declared.call.Call.{Call}
 use Rattle.kfs_path.specs.declared.call.Call.TheVariants as calls
 use Rattle.kfs_path.specs.declared.call.Cause.{Cause}
@@ -10,9 +9,7 @@ use Rattle.kfs_path.specs.declared.call.Reply.{Reply}
 use Rattle.kfs_path.specs.declared.call.Reply.TheVariants as replies
 use Rattle.kfs_model.specs.Ladder.{◌>>=◌}
 use Rattle.kfs_model.specs.Step.{Route, syntax}
-use Rattle.kfs_model.specs.declared.Line.TheVariants as lines
-use Rattle.kfs_model.specs.declared.Answer.TheVariants as answers
-use Rattle.kfs_tx.specs.Tx.{Tx, seen, one_change}
+use Rattle.kfs_tx.specs.Tx.{seen, one_change}
 use Rattle.kfs_core.specs.declared.fault.CoreFault.{CoreFault}
 use Rattle.kfs_core.specs.declared.fault.CoreFault.TheVariants.{No, Device}
 use Rattle.kfs_core.specs.declared.renaming.Move.{Move}
@@ -24,12 +21,10 @@ use Rattle.kfs_posix.specs.Removing.{open_now}
 use Rattle.kfs_posix.specs.Renaming.{Renamed, NotRenamed, rename_by, without_replaced}
 use Rattle.kfs_posix.specs.Volume.{Volume, SessionState, state_of, volume_of, cause_of}
 use Rattle.kfs_posix.specs.Answering.{IsYoung, refusal, down_after}
-use Rattle.kfs_posix.specs.Showing.{GoesOn}
-use Rattle.kfs_posix.proofs.Fault.{caused_counts, alone_caused}
-use Rattle.kfs_posix.proofs.Events.{Happens, same_machine, answered, failed, low_count, Fails, done_plain}
+use Rattle.kfs_posix.proofs.Events.{unread, erred, taken_down, Happens, same_machine, answered, low_count, Fails}
+use Rattle.kfs_posix.proofs.Calls.{any_cause}
 use Rattle.kfs_posix.proofs.Planned.{changed_same}
-use Rattle.kfs_posix.proofs.RenameGoes.{moved_same, rename_caused, rename_rest, rename_no, rename_goes, rename_falls, rename_unread}
-use Rattle.kfs_posix.proofs.Going.{errs}
+use Rattle.kfs_posix.proofs.RenameGoes.{moved_same, rename_caused, rename_rest, rename_no, rename_goes, rename_falls}
 
 -- what the call failed with, by the paths' texts
 pub rename_not_done : (old new : KfsState) (o : Opens) (p q : List ℕ) (from to : Route) (judge : Route → Route → Result (Option Move) Errno) (nodes : List (List ℕ)) (fault : CoreFault) → syntax p ≡ Ok from → syntax q ≡ Ok to → nodes ≡ nodes_of o
@@ -54,28 +49,22 @@ module _ (old : SessionState) (k0 k1 : KfsState) (o o1 : Opens) (d : Option Caus
     where
       by : (x : Option Move) → judge ≡ Ok x → MovesTo k0 x (open_now o) k1 → o1 ≡ without_replaced o (option_and_then replaced_node x) → Happens old call replies.Done k1 o1 d
       by None judged same files =
-          answered old k0 k1 o o1 d is up call replies.Done done_plain (tx_in k0) k0.charge k0.chunks o (same_machine (tx_in k0))
-          (ap tx_in same) (ap (λ (k : KfsState). k.charge) same) (ap (λ (k : KfsState). k.chunks) same) (ap (λ (k : KfsState). k.keys) same) (ap (λ (k : KfsState). k.pages) same) files
+          answered old k0 k1 o o1 d is up call replies.Done tt (tx_in k0) k0.charge k0.chunks o (same_machine (tx_in k0))
+          (ap tx_in same) same files
           (rename_rest b from to up judged)
       by (Some move) judged (moves, frees) files =
           let n = 4 + chunks_replaced move.replaced (open_now o) in
-          answered old k0 k1 o o1 d is up call replies.Done done_plain (one_change (with_moved moves.mid move) n moves.mid.next) (k0.charge - keys_replaced move.replaced (open_now o)) (k0.chunks - chunks_replaced move.replaced (open_now o))
+          answered old k0 k1 o o1 d is up call replies.Done tt (one_change (with_moved moves.mid move) n moves.mid.next) (k0.charge - keys_replaced move.replaced (open_now o)) (k0.chunks - chunks_replaced move.replaced (open_now o))
           (without_replaced o (replaced_node move))
           (changed_same (tx_in k0) (with_moved moves.mid move) (moved_same (tx_in k0) move (open_now o) moves.mid moves.replaces) n moves.mid.next)
-          moves.change (ap (λ (k : KfsState). k.charge) frees) (ap (λ (k : KfsState). k.chunks) frees) (ap (λ (k : KfsState). k.keys) frees) (ap (λ (k : KfsState). k.pages) frees) files
+          moves.change frees files
           (rename_goes b from to up move judged (low_count old k0 o d is age) moves.mid moves.replaces)
 
   pub rename_failed : (fault : CoreFault) (reply : Reply) (d1 : Option Cause) → NotRenamed k0 o judge fault k1 o1 → reply ≡ refusal fault → d1 ≡ down_after d fault → Fails old call fault reply k1 o1 d1
   rename_failed (No e) reply d1 h reply_is down =
-      let machine = ap (λ (k : KfsState). (tx_in k).machine) h.1 in
-      failed old k0 k1 o o1 d is up call (No e) reply d1 reply_is down (ap (λ (k : KfsState). k.charge) h.1) (ap (λ (k : KfsState). k.chunks) h.1) (ap (λ (k : KfsState). k.keys) h.1) (ap (λ (k : KfsState). k.pages) h.1) h.2
-      (ap (λ (m : Machine). m.cuts) machine, ap (λ (m : Machine). m.faults) machine)
-      (errs b (record b { tx = tx_in k1 }) call e (subst (λ (r : Tx). GoesOn b (lines.Call call) (answers.Reply (replies.Err e)) (record b { tx = r })) (sym (ap tx_in h.1)) (rename_no b from to up e h.0)))
-  rename_failed (Device f) reply d1 (stays, files, inl unread) reply_is down =
-      failed old k0 k1 o o1 d is up call (Device f) reply d1 reply_is down (ap (λ (k : KfsState). k.charge) stays) (ap (λ (k : KfsState). k.chunks) stays) (ap (λ (k : KfsState). k.keys) stays) (ap (λ (k : KfsState). k.pages) stays) files
-      (caused_counts (tx_in k0).machine f (tx_in k1).machine awake (alone_caused (tx_in k0).machine f (tx_in k1).machine unread.1))
-      (rename_unread b from to up (record b { tx = tx_in k1; down = Some (cause_of f) }) f refl refl unread)
+      erred old k0 k1 o o1 d is up call e reply d1 reply_is down (ap tx_in h.1) h.1 h.2 (rename_no b from to up e h.0)
+  rename_failed (Device f) reply d1 (stays, files, inl unread_is) reply_is down =
+      unread old k0 k1 o o1 d is up call f reply d1 reply_is down awake stays files (λ live sh cause. any_cause live.world call refl refl refl cause) unread_is
   rename_failed (Device f) reply d1 (stays, files, inr (move, judged, fell)) reply_is down =
-      failed old k0 k1 o o1 d is up call (Device f) reply d1 reply_is down (ap (λ (k : KfsState). k.charge) stays) (ap (λ (k : KfsState). k.chunks) stays) (ap (λ (k : KfsState). k.keys) stays) (ap (λ (k : KfsState). k.pages) stays) files
-      (caused_counts (tx_in k0).machine f (tx_in k1).machine awake (rename_caused (tx_in k0) move (open_now o) f (tx_in k1).machine fell))
+      taken_down old k0 k1 o o1 d is up call f reply d1 reply_is down awake stays files (rename_caused (tx_in k0) move (open_now o) f (tx_in k1).machine fell)
       (rename_falls b from to up move judged (low_count old k0 o d is age) (record b { tx = tx_in k1; down = Some (cause_of f) }) f refl refl fell)

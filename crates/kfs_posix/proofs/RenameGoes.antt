@@ -14,7 +14,7 @@ use Rattle.kfs_model.specs.Desk.{Desk, is_open}
 use Rattle.kfs_model.specs.Step.{World, After, Route, syntax, settled, swept, rename}
 use Rattle.kfs_model.specs.Change.{weight, has_left}
 use Rattle.kfs_model.specs.Life.{Live}
-use Rattle.kfs_tx.specs.Tx.{Tx, Caused, GetFault, seen, one_change}
+use Rattle.kfs_tx.specs.Tx.{Tx, Caused, seen, one_change}
 use Rattle.kfs_file.specs.Contents.{pending_of}
 use Rattle.kfs_core.specs.declared.removing.Leaf.{Leaf}
 use Rattle.kfs_core.specs.declared.renaming.Move.{Move}
@@ -34,7 +34,7 @@ use Rattle.kfs_posix.specs.Showing.{ShowsLive, GoesOn}
 use Rattle.kfs_posix.proofs.Held.{world_in}
 use Rattle.kfs_posix.proofs.Going.{spare, spare_free, idle_goes, turn_goes, Refuses}
 use Rattle.kfs_posix.proofs.Calls.{stands_of, any_cause}
-use Rattle.kfs_posix.proofs.Planned.{Planned, world_shown, planned_goes, planned_falls, early_falls, unread_at, change_caused}
+use Rattle.kfs_posix.proofs.Planned.{Planned, world_shown, planned_goes, planned_falls, early_falls, change_caused}
 use Rattle.kfs_posix.proofs.Unnaming.{forgets, forgets_holds, keeps_holds}
 use Rattle.kfs_posix.proofs.UnnameGoes.{ok_bind, err_bind, listed, reach}
 use Rattle.kfs_core.specs.declared.fault.CoreFault.TheVariants.{Device}
@@ -167,6 +167,3 @@ module _ (old : Volume) (from to : List ℕ) (up : old.down ≡ None) where
           omega arith) h
       rename_falls new fault down limits (inr (mid, does, h)) =
           planned_falls old (with_moved mid move) (moved_same old.tx move (open_now old.files) mid does) call files n c p count up (planned mid does) new fault down limits (λ live sh cause. any_cause live.world call refl refl refl cause) h
-
-  pub rename_unread : (new : Volume) (fault : DeviceFault) → new.down ≡ Some (cause_of fault) → limits_of new ≡ limits_of old → GetFault old.tx fault new.tx.machine → Refuses old call (Device fault) new
-  rename_unread new fault down limits h = unread_at old new call fault up down limits (λ live sh cause. any_cause live.world call refl refl refl cause) h

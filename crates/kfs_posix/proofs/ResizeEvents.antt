@@ -37,7 +37,7 @@ use Rattle.kfs_posix.specs.Showing.{ShowsLive}
 use Rattle.kfs_posix.proofs.Held.{world_in, described, opened_same, file_is}
 use Rattle.kfs_posix.proofs.Going.{spare}
 use Rattle.kfs_posix.proofs.Calls.{stands_of, any_cause}
-use Rattle.kfs_posix.proofs.ReadGoes.{file_bytes, as_described}
+use Rattle.kfs_posix.proofs.ReadGoes.{parted, file_bytes, as_described}
 use Rattle.kfs_posix.proofs.UnnameGoes.{ok_bind, err_bind}
 use Rattle.kfs_posix.proofs.WriteJudges.{writable_same, writable_is, relengthed_desk, relengthed_holds}
 use Rattle.kfs_posix.proofs.WriteEvents.{looked_up, space_of, space_is}
@@ -110,14 +110,6 @@ module _ (old : Volume) (fd : ℕ) (size : ℤ) where
       let knows = sh.holds.known it.0 it.1 (file_is o fd it may.0) in
       file_bytes live.world.tree it.1 knows (knows.writes may.1)
 
-  parts : (it : ℕ × OpenFile) → writable_at o fd size ≡ Ok it → (writable_in o fd ≡ Ok it) × (is_negative size ≡ false)
-  parts it e = by (writable_in o fd) (is_negative size) refl e
-    where
-      by : (r : Result (ℕ × OpenFile) Errno) (b : Bool) → is_negative size ≡ b → (r >>= λ it. (EINVAL when b) >> Ok it) ≡ Ok it → (r ≡ Ok it) × (is_negative size ≡ false)
-      by (Err f) b n e = absurd (cc)
-      by (Ok x) true n e = absurd (cc)
-      by (Ok x) false n e = (e, n)
-
   refused_at : (live : Live) (sh : ShowsLive old live) (e : Errno) → judge ≡ Err e → step (limits_of old) (spare old) live.world call ≡ record { world = live.world; reply = replies.Err e }
   refused_at live sh e is = stepped live sh ∙ ap (settles live) (by (writable_in o fd) refl (is_negative size) is) ∙ as_it_was live sh e
     where
@@ -145,7 +137,7 @@ module _ (old : Volume) (fd : ℕ) (size : ℤ) where
       let t = live.world.tree in
       let s = natural size in
       let a = ok_bind (writable_at o fd size) (λ it. resize_node (seen old.tx) (space_of old) it.1.it.node s) got is in
-      let p = parts a.0 a.1 in
+      let p = parted (writable_in o fd) (is_negative size) a.0 a.1 in
       let j = node_judged old a.0.1.it.node s got a.2 in
       subst (λ n. Lengthens old n got.1 s call replies.Done (relengthed o n s) (spare old) live) j.0 (by a.0 p.0 p.1 j.1)
     where

@@ -15,12 +15,12 @@ use Rattle.kfs_model.specs.declared.Node.TheVariants.{File}
 use Rattle.kfs_model.specs.declared.Line.TheVariants as lines
 use Rattle.kfs_model.specs.declared.Answer.TheVariants as answers
 use Rattle.kfs_model.specs.Tree.{Tree, node_of, with_node, resized, charge, chunks, greatest_length, has_room}
-use Rattle.kfs_model.specs.Step.{World, After, step}
-use Rattle.kfs_model.specs.Change.{weight, resizing, commits, is_boundary}
+use Rattle.kfs_model.specs.Step.{World, step}
+use Rattle.kfs_model.specs.Change.{weight, resizing, commits}
 use Rattle.kfs_model.specs.Life.{Live, can_fail}
 use Rattle.kfs_shows.specs.Sweeping.{ShowsWorld, with_tree}
-use Rattle.kfs_tx.specs.Tx.{Tx, Caused, seen, changed_keys, one_change, with_super, is_full}
-use Rattle.kfs_tx.proofs.Falling.{put_falls, change_falls}
+use Rattle.kfs_tx.specs.Tx.{Tx, Caused, seen, changed_keys, one_change}
+use Rattle.kfs_tx.proofs.Falling.{put_falls}
 use Rattle.kfs_file.specs.Contents.{pending_of}
 use Rattle.kfs_core.specs.Files.{with_length}
 use Rattle.kfs_core.specs.Room.{chunks_for}
@@ -33,11 +33,10 @@ use Rattle.kfs_core.proofs.Weights.{resizing_is, resizing_stays}
 use Rattle.kfs_posix.specs.Opens.{Opens, desk_of}
 use Rattle.kfs_posix.specs.Holding.{Holds}
 use Rattle.kfs_posix.specs.Volume.{Volume, limits_of, cause_of}
-use Rattle.kfs_posix.specs.Showing.{ShowsLive, IsWhole, GoesOn}
-use Rattle.kfs_posix.proofs.Changing.{IsPut, change_shown, sees, to_save}
-use Rattle.kfs_posix.proofs.Going.{spare, as_before, as_after, change_goes_at, turn_goes, fall_goes, Refuses}
-use Rattle.kfs_posix.proofs.Calls.{room_for}
-use Rattle.kfs_posix.proofs.Planned.{world_shown, changed_same, changed_bounds, caused_from, change_caused, fallen_from, early_falls}
+use Rattle.kfs_posix.specs.Showing.{ShowsLive, GoesOn}
+use Rattle.kfs_posix.proofs.Changing.{IsPut, change_shown}
+use Rattle.kfs_posix.proofs.Going.{spare, as_before, change_goes_at, turn_goes, fall_goes, Refuses}
+use Rattle.kfs_posix.proofs.Planned.{boundary_fell, world_shown, changed_same, changed_bounds, caused_from, change_caused, fallen_from, early_falls}
 use Rattle.kfs_core.specs.declared.fault.CoreFault.TheVariants.{Device}
 
 -- what the call does to the tree that is shown: the file n, of so many bytes, gets a length; d is the number of the description that the call makes
@@ -188,31 +187,6 @@ module _ (old : Volume) (n was size : ℕ) (call : Call) (reply : Reply) (files 
         })
     length_falls new fault down limits can at (inr (put, puts, inr h)) = fall_goes old new call fault up down limits (λ live sh.
         let it = at live sh in
-        let m = mid put puts in
-        let t = tree put puts (spare old) live sh it in
-        let is = put_is put puts (spare old) live sh it in
-        let charge_is = charged put puts (spare old) live sh it in
-        let chunks_is = chunked put puts (spare old) live sh it in
-        let shown = sees old live sh m t w put.next charge_now chunks_now is charge_is chunks_is files it.holds in
-        let saved = to_save old live sh m t w put.next charge_now chunks_now is charge_is chunks_is files it.holds in
-        let room = room_for (seen (with_super m put.next)) t (live.past.count + 1) (limits_of old) m.machine is.tree shown (let h = is.low in omega arith) is.room (sh.keys ∙ sym is.bounds.room_keys) (sh.pages ∙ sym is.bounds.room_pages) in
-        let only = same put puts in
         let k = few_keys put puts (spare old) live sh it in
-        let enough = is.few in
-        let light = sh.light.light in
-        elim (change_falls m w put.next fault new.tx.machine is.ready (omega arith) room h) [
-          | inl f ↦ record {
-            stands = old.tx.machine.stable;
-            fallen = fallen_from old.tx m fault old.tx.machine.stable new.tx.machine only f.cause (f.stable ∙ is.stable) f.bounds;
-            stood = as_before sh.saved;
-            can = λ cause e. can live.world cause;
-          }
-          | inr y ↦ record {
-            stands = seen (with_super m put.next);
-            fallen = fallen_from old.tx m fault (seen (with_super m put.next)) new.tx.machine only y.1.cause y.1.stable y.1.bounds;
-            stood = as_after w (ap (weight live.world call) it.step_is ∙ weighs put puts (spare old) live sh it)
-                (ap (λ (a : After). is_boundary live.since call a.reply (Some w)) it.step_is ∙ (λ i. is_full (sym sh.changes i + 1) (sym sh.weight i + w)) ∙ (λ i. is_full (sym is.since i + 1) (sym is.weight i + w)) ∙ y.0)
-                (subst (λ (t : Tree). IsWhole (limits_of old) (seen (with_super m put.next)) t (live.past.count + 1)) (ap (λ (a : After). a.world.tree) (sym it.step_is)) saved);
-            can = λ cause e. can live.world cause;
-          }
-        ])
+        boundary_fell old new live sh (mid put puts) (same put puts) (tree put puts (spare old) live sh it) w put.next charge_now chunks_now (put_is put puts (spare old) live sh it) (charged put puts (spare old) live sh it) (chunked put puts (spare old) live sh it) files it.holds call reply fault
+        it.step_is (weighs put puts (spare old) live sh it) (omega arith) (can live.world) h)

@@ -9,6 +9,11 @@ pub both_true : (a b : Bool) → (a && b) ≡ true → (a ≡ true) × (b ≡ tr
 both_true true b e = (refl, e)
 both_true false b e = absurd (cc)
 
+pub room_of : (k : Limits) (t : Tree) → has_room k t ≡ true → (charge t ≤ k.keys) × (chunks t ≤ k.pages)
+room_of k t room =
+    let h = both_true (nat_le (charge t) k.keys) (nat_le (chunks t) k.pages) room in
+    (grind (arith, nat_tests, h.0), grind (arith, nat_tests, h.1))
+
 module _ (p : ℕ × Node → Bool) where
   fewer : (es : List (ℕ × Node)) → length (filter p es) ≤ length es
   fewer [] = omega arith
@@ -29,11 +34,10 @@ module _ (p : ℕ × Node → Bool) where
 -- with fewer nodes a tree takes no more room
 pub named_fits : (k : Limits) (t : Tree) → has_room k t ≡ true → has_room k (named t) ≡ true
 named_fits k t room =
-    let h = both_true (nat_le (charge t) k.keys) (nat_le (chunks t) k.pages) room in
+    let c = (room_of k t room).0 in
+    let d = (room_of k t room).1 in
     let a = fewer (λ e. is_named t e.0) t.nodes in
     let b = smaller (λ e. is_named t e.0) t.nodes in
-    let c : charge t ≤ k.keys = grind (arith, nat_tests, h.0) in
-    let d : chunks t ≤ k.pages = grind (arith, nat_tests, h.1) in
     let e : nat_le (charge (named t)) k.keys ≡ true = grind (arith, nat_tests) in
     let f : nat_le (chunks (named t)) k.pages ≡ true = grind (arith, nat_tests) in
     λ i. (e i && f i)

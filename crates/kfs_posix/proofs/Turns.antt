@@ -1,6 +1,5 @@
 -- Calls on the open files alone, as events of a life.
 use Rattle.std.proofs.Common.{◌≡◌, ℕ, true, false, cond, Bool, refl, sym, ◌∙◌, subst, Option, Some, None, Result, Ok, ℤ, pos, ◌+ℤ◌, ◌^◌, nat_le}
-use Rattle.kv_device.specs.Machine.{Machine}
 use Rattle.kfs_path.specs.declared.call.Call.{Call}
 use Rattle.kfs_path.specs.declared.call.Call.TheVariants as calls
 use Rattle.kfs_path.specs.declared.call.Cause.{Cause}
@@ -22,16 +21,10 @@ use Rattle.kfs_posix.specs.Opens.{Opens, desk_of, open_at, with_descriptor, with
 use Rattle.kfs_posix.specs.Holding.{Holds}
 use Rattle.kfs_posix.specs.Turning.{Turn, turned, dup_in, lseek_in, fstat_in, base, at_offset}
 use Rattle.kfs_posix.specs.Volume.{Volume, SessionState, state_of, volume_of, limits_of}
-use Rattle.kfs_posix.specs.Answering.{CountsFaults, KeepsCause}
 use Rattle.kfs_posix.specs.Showing.{GoesOn}
 use Rattle.kfs_posix.proofs.Held.{world_in, after_in, dup_same, dup_holds, lseek_same, lseek_holds, fstat_same, fstat_files}
 use Rattle.kfs_posix.proofs.Going.{spare, spare_free, turn_goes}
-
--- neither down nor off
-abbrev pub IsAnswer : Reply → Type 0
-IsAnswer (replies.Down cause) = ⊥
-IsAnswer replies.Off = ⊥
-IsAnswer reply = Unit {0}
+use Rattle.kfs_posix.proofs.Events.{IsAnswer, Happens, answered, same_machine}
 
 -- what a call does to a world, by what it does to the open files
 pub record Turns (o : Opens) (call : Call) (r : Result Turn Errno) : Type 0 where
@@ -93,22 +86,12 @@ fstat_turns o fd = record {
 
 -- ---- of a session
 
-still_counts : (m : Machine) (reply : Reply) → IsAnswer reply → CountsFaults m reply m
-still_counts m (replies.Down cause) h = absurd h
-still_counts m replies.Off h = absurd h
-still_counts m reply h = (refl, refl)
-
-still_up : (old new : Volume) (reply : Reply) → IsAnswer reply → old.down ≡ None → new.down ≡ None → KeepsCause old reply new
-still_up old new (replies.Down cause) h a b = absurd h
-still_up old new replies.Off h a b = absurd h
-still_up old new reply h a b = (a, b)
-
 module _ (old : SessionState) (k0 : KfsState) (o o1 : Opens) (d : Option Cause) (is : state_of k0 o d ≡ old) (up : d ≡ None) (call : Call) (reply : Reply) (r : Result Turn Errno) (turns : Turns o call r) (done : record { files = o1; reply = reply } ≡ turned o r) where
   abbrev b : Volume
   b = volume_of k0 o d
 
-  pub turned_goes : GoesOn old.volume (lines.Call call) (answers.Reply reply) (volume_of k0 o1 d)
-  turned_goes =
+  pub turned_happens : Happens old call reply k0 o1 d
+  turned_happens =
       let turn = turned o r in
       let goes : GoesOn b (lines.Call call) (answers.Reply turn.reply) (record b { files = turn.files }) =
       turn_goes b turn.files call turn.reply (spare b) (spare_free b) up (turns.quiet turn.reply) (λ live sh. (
@@ -116,14 +99,5 @@ module _ (old : SessionState) (k0 : KfsState) (o o1 : Opens) (d : Option Cause) 
         turns.weighs live.world (desk_of turn.files) turn.reply,
         turns.holds live.world.tree sh.holds,
       )) in
-      subst (λ (s : SessionState). GoesOn s.volume (lines.Call call) (answers.Reply reply) (volume_of k0 o1 d)) is
+      answered old k0 k0 o o1 d is up call reply (subst (λ (x : Turn). IsAnswer x.reply) (sym done) turns.answers) (tx_in k0) k0.charge k0.chunks o1 (same_machine (tx_in k0)) refl refl refl
       (subst (λ (x : Turn). GoesOn b (lines.Call call) (answers.Reply x.reply) (record b { files = x.files })) (sym done) goes)
-
-  is_answer : IsAnswer reply
-  is_answer = subst (λ (x : Turn). IsAnswer x.reply) (sym done) turns.answers
-
-  pub turned_counts : CountsFaults old.volume.tx.machine reply (tx_in k0).machine
-  turned_counts = subst (λ (s : SessionState). CountsFaults s.volume.tx.machine reply (tx_in k0).machine) is (still_counts (tx_in k0).machine reply is_answer)
-
-  pub turned_keeps : KeepsCause old.volume reply (volume_of k0 o1 d)
-  turned_keeps = subst (λ (s : SessionState). KeepsCause s.volume reply (volume_of k0 o1 d)) is (still_up b (volume_of k0 o1 d) reply is_answer up up)

@@ -17,7 +17,7 @@ use Rattle.kfs_model.specs.Step.{World, After, syntax, step, settled, swept, unl
 use Rattle.kfs_model.specs.Change.{weight, commits}
 use Rattle.kfs_model.specs.Life.{Live, can_fail}
 use Rattle.kfs_shows.specs.Sweeping.{with_tree}
-use Rattle.kfs_tx.specs.Tx.{Tx, Caused, GetFault, seen, deleted_in, one_change}
+use Rattle.kfs_tx.specs.Tx.{Tx, Caused, seen, deleted_in, one_change}
 use Rattle.kfs_file.specs.Contents.{pending_of}
 use Rattle.kfs_core.specs.declared.removing.Leaf.{Leaf}
 use Rattle.kfs_core.specs.Removing.{Unnames, UnlinkFault, chunks_gone, keys_gone, unlink_in, rmdir_in}
@@ -33,7 +33,7 @@ use Rattle.kfs_posix.specs.Showing.{ShowsLive, GoesOn}
 use Rattle.kfs_posix.proofs.Held.{world_in}
 use Rattle.kfs_posix.proofs.Going.{spare, idle_goes, Refuses}
 use Rattle.kfs_posix.proofs.Calls.{stands_of, any_cause}
-use Rattle.kfs_posix.proofs.Planned.{Planned, world_shown, planned_goes, planned_falls, early_falls, unread_at, change_caused}
+use Rattle.kfs_posix.proofs.Planned.{Planned, world_shown, planned_goes, planned_falls, early_falls, change_caused}
 use Rattle.kfs_posix.proofs.Unnaming.{listed_same, forgets, leaf_holds}
 use Rattle.kfs_core.specs.declared.fault.CoreFault.TheVariants.{Device}
 
@@ -84,9 +84,6 @@ module _ (old : Volume) (call : Call) (judge : Result Leaf Errno) (removal : IsR
 
   pub unname_refused : (e : Errno) → judge ≡ Err e → GoesOn old (lines.Call call) (answers.Reply (replies.Err e)) old
   unname_refused e is = idle_goes old call (replies.Err e) up (removal.weightless e) (removal.quiet e) (λ live sh. removal.refused live sh e is (spare old))
-
-  pub unname_unread : (new : Volume) (fault : DeviceFault) → new.down ≡ Some (cause_of fault) → limits_of new ≡ limits_of old → GetFault old.tx fault new.tx.machine → Refuses old call (Device fault) new
-  unname_unread new fault down limits h = unread_at old new call fault up down limits (λ live sh cause. removal.can live.world cause) h
 
   pub unname_falls : (new : Volume) (leaf : Leaf) (fault : DeviceFault) → judge ≡ Ok leaf → new.down ≡ Some (cause_of fault) → limits_of new ≡ limits_of old → UnlinkFault old.tx leaf (open_still leaf) fault new.tx.machine
       → Refuses old call (Device fault) new

@@ -1,12 +1,9 @@
 -- Telling the tree and due jobs as events of a life, by what they did.
-use Rattle.std.proofs.Common.{◌≡◌, ℕ, ◌<◌, ◌≤◌, ◌^◌, ◌&&◌, not, true, false, cond, Bool, refl, sym, ap, subst, arith, List, Option, Some, None, nat_le}
-use Rattle.std.specs.FinMap as objects
-use Rattle.std.proofs.lemmas.Bool.Decides.{nat_tests}
+use Rattle.std.proofs.Common.{◌≡◌, ℕ, ◌<◌, ◌≤◌, ◌^◌, not, true, cond, refl, sym, ap, subst, arith, List, Option, Some, None}
 use Rattle.kv_device.specs.declared.fault.DeviceFault.{DeviceFault}
 use Rattle.kv_device.specs.declared.fault.DeviceFault.TheVariants.{NoTx, Busy, TxFull, Full, BadSize, Off, Failed, Memory}
 use Rattle.kv_device.specs.Machine.{Machine}
 use Rattle.kv_device.specs.Calls.{IsFault, Falls, WorkFault}
-use Rattle.kfs_path.specs.declared.call.Call.{Call}
 use Rattle.kfs_path.specs.declared.call.Call.TheVariants as calls
 use Rattle.kfs_path.specs.declared.call.Cause.{Cause}
 use Rattle.kfs_path.specs.declared.call.Reply.{Reply}
@@ -14,36 +11,24 @@ use Rattle.kfs_path.specs.declared.call.Reply.TheVariants as replies
 use Rattle.kfs_path.specs.declared.call.TreeItem.{TreeItem}
 use Rattle.kfs_model.specs.declared.Line.TheVariants as lines
 use Rattle.kfs_model.specs.declared.Answer.TheVariants as answers
-use Rattle.kfs_model.specs.Tree.{charge, chunks}
-use Rattle.kfs_model.specs.Life.{Live}
-use Rattle.kfs_shows.proofs.Counting.{few_objects}
 use Rattle.kfs_tx.specs.Tx.{SameBounds, Fallen, seen}
 use Rattle.kfs_core.specs.declared.fault.CoreFault.{CoreFault}
 use Rattle.kfs_core.specs.declared.fault.CoreFault.TheVariants.{No, Device}
 use Rattle.kfs_core.specs.Core.{KfsState, tx_in, Stays}
-use Rattle.kfs_core.specs.Gives.{LeavesAtFault}
+use Rattle.kfs_core.specs.Returned.{LeavesAtFault}
 use Rattle.kfs_core.specs.Listing.{ListsAll, IsOfDevice}
 use Rattle.kfs_core.specs.Working.{WorkFails}
 use Rattle.kfs_core.proofs.Told.{told_same}
 use Rattle.kfs_posix.specs.Opens.{Opens}
 use Rattle.kfs_posix.specs.Volume.{Volume, SessionState, state_of, volume_of, limits_of, cause_of}
-use Rattle.kfs_posix.specs.Answering.{CountsFaults, refusal, down_after}
-use Rattle.kfs_posix.specs.Showing.{ShowsLive, GoesOn}
+use Rattle.kfs_posix.specs.Answering.{refusal, down_after}
+use Rattle.kfs_posix.specs.Showing.{GoesOn}
 use Rattle.kfs_posix.proofs.Going.{as_before, idle_goes, fall_goes, Refuses}
-use Rattle.kfs_posix.proofs.Calls.{stands_of, read_falls, any_cause}
-use Rattle.kfs_posix.proofs.Fault.{read_counts, caused_counts, alone_caused}
-use Rattle.kfs_posix.proofs.Events.{Happens, Fails, plain, done_plain, idle, fails}
-use Rattle.kfs_posix.proofs.Rooms.{both_true}
+use Rattle.kfs_posix.proofs.Calls.{few_seen, stands_of, read_falls, any_cause}
+use Rattle.kfs_posix.proofs.Fault.{alone_caused}
+use Rattle.kfs_posix.proofs.Events.{taken_down, Happens, Fails, idle}
 
 -- ---- the tree
-
--- a session on a device of few keys sees few objects
-few_seen : (b : Volume) (live : Live) → ShowsLive b live → b.keys < 2 ^ 32 → objects.len (seen b.tx) < 2 ^ 32
-few_seen b live sh small =
-    let h = both_true (nat_le (charge live.world.tree) b.keys) (nat_le (chunks live.world.tree) b.pages) sh.room in
-    let le : charge live.world.tree ≤ b.keys = grind (arith, nat_tests, h.0) in
-    let few = few_objects (seen b.tx) live.world.tree sh.tree sh.sees.tree (let h = sh.low in omega arith) in
-    omega arith
 
 tree_goes : (old : Volume) (items : List TreeItem) → old.down ≡ None → old.keys < 2 ^ 32 → ListsAll (seen old.tx) items → GoesOn old (lines.Call calls.Tree) (answers.Reply (replies.Tree items)) old
 tree_goes old items up small lists = idle_goes old calls.Tree (replies.Tree items) up (λ w x. refl) refl (λ live sh.
@@ -83,26 +68,20 @@ module _ (old : SessionState) (k0 k1 : KfsState) (o : Opens) (d : Option Cause) 
   b = volume_of k0 o d
 
   pub tree_answered : (items : List TreeItem) → k0.keys ≤ 68544 → ListsAll (seen (tx_in k0)) items → tx_in k1 ≡ tx_in k0 → Happens old calls.Tree (replies.Tree items) k1 o d
-  tree_answered items small lists leaves = idle old k0 k1 o d is up rest calls.Tree (replies.Tree items) (plain (λ old new h. h) (λ old new a b. (a, b))) leaves (tree_goes b items up (omega arith) lists)
+  tree_answered items small lists leaves = idle old k0 k1 o d is up rest calls.Tree (replies.Tree items) tt leaves (tree_goes b items up (omega arith) lists)
 
   pub tree_failed : (fault : CoreFault) (reply : Reply) (d1 : Option Cause) → IsOfDevice fault → LeavesAtFault (tx_in k0) fault (tx_in k1) → reply ≡ refusal fault → d1 ≡ down_after d fault → Fails old calls.Tree fault reply k1 o d1
-  tree_failed fault reply d1 own leaves reply_is down = fails old k0 k1 o d is up rest calls.Tree fault reply d1 reply_is down (read_counts (tx_in k0) (tx_in k1) fault awake leaves) (by fault own leaves)
-    where
-      by : (fault : CoreFault) → IsOfDevice fault → LeavesAtFault (tx_in k0) fault (tx_in k1) → Refuses b calls.Tree fault (record b { tx = tx_in k1; down = down_after d fault })
-      by (No e) own leaves = absurd own
-      by (Device f) own leaves = read_falls b (record b { tx = tx_in k1; down = Some (cause_of f) }) calls.Tree f (λ w. refl) (λ w. refl) up refl refl leaves
+  tree_failed (No e) reply d1 own leaves reply_is down = absurd own
+  tree_failed (Device f) reply d1 own leaves reply_is down =
+      taken_down old k0 k1 o o d is up calls.Tree f reply d1 reply_is down awake rest refl (alone_caused (tx_in k0).machine f (tx_in k1).machine leaves.1)
+      (read_falls b (record b { tx = tx_in k1; down = Some (cause_of f) }) calls.Tree f (λ w. refl) (λ w. refl) up refl refl leaves)
 
   module _ (operations : ℕ) where
     pub work_answered : tx_in k1 ≡ tx_in k0 → Happens old (calls.Work operations) replies.Done k1 o d
-    work_answered leaves = idle old k0 k1 o d is up rest (calls.Work operations) replies.Done done_plain leaves (work_goes b operations up)
+    work_answered leaves = idle old k0 k1 o d is up rest (calls.Work operations) replies.Done tt leaves (work_goes b operations up)
 
     pub work_failed : (fault : CoreFault) (reply : Reply) (d1 : Option Cause) → WorkFails (tx_in k0) (tx_in k1) fault → reply ≡ refusal fault → d1 ≡ down_after d fault → Fails old (calls.Work operations) fault reply k1 o d1
-    work_failed fault reply d1 h reply_is down = fails old k0 k1 o d is up rest (calls.Work operations) fault reply d1 reply_is down (counts fault h) (by fault h)
-      where
-        counts : (fault : CoreFault) → WorkFails (tx_in k0) (tx_in k1) fault → CountsFaults (tx_in k0).machine (refusal fault) (tx_in k1).machine
-        counts (No e) h = absurd h
-        counts (Device f) h = caused_counts (tx_in k0).machine f (tx_in k1).machine awake (alone_caused (tx_in k0).machine f (tx_in k1).machine h.1)
-
-        by : (fault : CoreFault) → WorkFails (tx_in k0) (tx_in k1) fault → Refuses b (calls.Work operations) fault (record b { tx = tx_in k1; down = down_after d fault })
-        by (No e) h = absurd h
-        by (Device f) h = work_falls b (record b { tx = tx_in k1; down = Some (cause_of f) }) operations f up refl refl h.0
+    work_failed (No e) reply d1 h reply_is down = absurd h
+    work_failed (Device f) reply d1 h reply_is down =
+        taken_down old k0 k1 o o d is up (calls.Work operations) f reply d1 reply_is down awake rest refl (alone_caused (tx_in k0).machine f (tx_in k1).machine h.1)
+        (work_falls b (record b { tx = tx_in k1; down = Some (cause_of f) }) operations f up refl refl h.0)

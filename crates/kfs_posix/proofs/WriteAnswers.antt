@@ -1,5 +1,5 @@
 -- `write` and `pwrite` of a session, by what writing did.
-use Rattle.std.proofs.Common.{◌≡◌, ℕ, ◌<◌, ◌+◌, ◌-◌, ◌^◌, inl, inr, true, max, refl, sym, ◌∙◌, ap, subst, List, length, take, Option, Some, None, Ok, Err, ℤ}
+use Rattle.std.proofs.Common.{◌≡◌, ℕ, ◌+◌, ◌-◌, inl, inr, true, max, refl, sym, ◌∙◌, ap, subst, List, length, take, Option, Some, None, Ok, Err, ℤ}
 use Rattle.kv_device.specs.declared.fault.DeviceFault.{DeviceFault}
 use Rattle.kv_device.specs.declared.fault.DeviceFault.TheVariants.{Memory}
 use Rattle.kfs_path.specs.declared.call.Call.{Call}
@@ -14,7 +14,7 @@ use Rattle.kfs_model.specs.declared.Answer.TheVariants as answers
 use Rattle.kfs_model.specs.Change.{spanned}
 use Rattle.kfs_model.specs.Step.{natural, World}
 use Rattle.kfs_model.specs.Life.{Live, can_fail}
-use Rattle.kfs_tx.specs.Tx.{one_change, GetFault}
+use Rattle.kfs_tx.specs.Tx.{one_change}
 use Rattle.kfs_core.specs.declared.fault.CoreFault.{CoreFault}
 use Rattle.kfs_core.specs.declared.fault.CoreFault.TheVariants.{No, Device}
 use Rattle.kfs_core.specs.Core.{KfsState, tx_in, Same, Stays, Takes}
@@ -26,13 +26,10 @@ use Rattle.kfs_posix.specs.Writing.{writable_in, writable_at, place_of, behind, 
 use Rattle.kfs_posix.specs.Volume.{Volume, SessionState, state_of, volume_of, cause_of}
 use Rattle.kfs_posix.specs.Answering.{IsYoung, refusal, down_after}
 use Rattle.kfs_posix.specs.Showing.{ShowsLive, GoesOn}
-use Rattle.kfs_posix.proofs.Fault.{caused_counts, alone_caused}
-use Rattle.kfs_posix.proofs.Events.{Happens, same_machine, answered, failed, low_count, Fails}
-use Rattle.kfs_posix.proofs.OpenAnswers.{number_plain}
-use Rattle.kfs_posix.proofs.Calls.{any_cause, unread_falls}
+use Rattle.kfs_posix.proofs.Events.{unread, erred, taken_down, Happens, same_machine, answered, low_count, Fails}
+use Rattle.kfs_posix.proofs.Calls.{any_cause}
 use Rattle.kfs_posix.proofs.WriteGoes.{Puts, put_goes, same_numbers, wrote_falls}
 use Rattle.kfs_posix.proofs.WriteEvents
-use Rattle.kfs_posix.proofs.Going.{errs}
 
 module _ (old : SessionState) (k0 k1 : KfsState) (o o1 : Opens) (d : Option Cause) (is : state_of k0 o d ≡ old) (up : d ≡ None) (awake : (tx_in k0).machine.up ≡ true) (age : IsYoung old) where
   abbrev b : Volume
@@ -41,13 +38,10 @@ module _ (old : SessionState) (k0 k1 : KfsState) (o o1 : Opens) (d : Option Caus
   -- all as it was
   unchanged : (call : Call) (n : ℕ) → Same k0 k1 → o1 ≡ o → GoesOn b (lines.Call call) (answers.Reply (replies.Number n)) b → Happens old call (replies.Number n) k1 o1 d
   unchanged call n same files goes =
-      answered old k0 k1 o o1 d is up call (replies.Number n) (number_plain n) (tx_in k0) k0.charge k0.chunks o (same_machine (tx_in k0)) (ap tx_in same) (ap (λ (k : KfsState). k.charge) same) (ap (λ (k : KfsState). k.chunks) same) (ap (λ (k : KfsState). k.keys) same) (ap (λ (k : KfsState). k.pages) same) files goes
+      answered old k0 k1 o o1 d is up call (replies.Number n) tt (tx_in k0) k0.charge k0.chunks o (same_machine (tx_in k0)) (ap tx_in same) same files goes
 
   refused : (call : Call) (e : Errno) (reply : Reply) (d1 : Option Cause) → reply ≡ refusal (No e) → d1 ≡ down_after d (No e) → Same k0 k1 → o1 ≡ o → GoesOn b (lines.Call call) (answers.Reply (replies.Err e)) b → Fails old call (No e) reply k1 o1 d1
-  refused call e reply d1 reply_is down same files goes =
-      failed old k0 k1 o o1 d is up call (No e) reply d1 reply_is down (ap (λ (k : KfsState). k.charge) same) (ap (λ (k : KfsState). k.chunks) same) (ap (λ (k : KfsState). k.keys) same) (ap (λ (k : KfsState). k.pages) same) files
-      (ap (λ (k : KfsState). (tx_in k).machine.cuts) same, ap (λ (k : KfsState). (tx_in k).machine.faults) same)
-      (errs b (record b { tx = tx_in k1 }) call e (subst (λ r. GoesOn b (lines.Call call) (answers.Reply (replies.Err e)) (record b { tx = r })) (sym (ap tx_in same)) goes))
+  refused call e reply d1 reply_is down same files goes = erred old k0 k1 o o1 d is up call e reply d1 reply_is down (ap tx_in same) same files goes
 
   -- a call that writes
   module _ (call : Call) (can : (w : World) (cause : Cause) → can_fail w call cause ≡ true) (node size p count : ℕ) (given : List ℕ) (long : length given ≡ count) (files : Opens)
@@ -56,24 +50,17 @@ module _ (old : SessionState) (k0 k1 : KfsState) (o o1 : Opens) (d : Option Caus
     wrote (put, bytes, run_is) takes files_is =
         let more : chunks_for (grown size p count) - chunks_for size ≡ chunks_for (grown size p (length given)) - chunks_for size = ap (λ n. chunks_for (grown size p n) - chunks_for size) (sym long) in
         let few = low_count old k0 o d is age in
-        answered old k0 k1 o o1 d is up call (replies.Number count) (number_plain count)
+        answered old k0 k1 o o1 d is up call (replies.Number count) tt
         (one_change (with_length put node (grown size p (length given))) (2 + spanned p (length given)) put.next)
         (k0.charge + (chunks_for (grown size p (length given)) - chunks_for size)) (k0.chunks + (chunks_for (grown size p (length given)) - chunks_for size)) files
         (same_numbers b node size p given call (replies.Number count) files few put bytes).0 run_is
-        (ap (λ (k : KfsState). k.charge) takes ∙ ap (λ n. k0.charge + n) more) (ap (λ (k : KfsState). k.chunks) takes ∙ ap (λ n. k0.chunks + n) more) (ap (λ (k : KfsState). k.keys) takes) (ap (λ (k : KfsState). k.pages) takes) files_is
+        (takes ∙ (λ i. record k0 { running = k1.running; charge = k0.charge + more i; chunks = k0.chunks + more i })) files_is
         (put_goes b node size p given call (replies.Number count) files few put bytes up puts)
 
     fell : (f : DeviceFault) (reply : Reply) (d1 : Option Cause) → reply ≡ refusal (Device f) → d1 ≡ down_after d (Device f) → Stays k0 k1 → o1 ≡ o → WriteFault (tx_in k0) node size p given f (tx_in k1).machine → Fails old call (Device f) reply k1 o1 d1
     fell f reply d1 reply_is down rest files_is h =
-        failed old k0 k1 o o1 d is up call (Device f) reply d1 reply_is down (ap (λ (k : KfsState). k.charge) rest) (ap (λ (k : KfsState). k.chunks) rest) (ap (λ (k : KfsState). k.keys) rest) (ap (λ (k : KfsState). k.pages) rest) files_is
-        (caused_counts (tx_in k0).machine f (tx_in k1).machine awake (write_caused (tx_in k0) node size p given f (tx_in k1).machine h))
+        taken_down old k0 k1 o o1 d is up call f reply d1 reply_is down awake rest files_is (write_caused (tx_in k0) node size p given f (tx_in k1).machine h)
         (wrote_falls b node size p given call (replies.Number count) files (low_count old k0 o d is age) (record b { tx = tx_in k1; down = Some (cause_of f) }) f up refl refl can puts h)
-
-  pub unread : (call : Call) → ((w : World) (cause : Cause) → can_fail w call cause ≡ true) → (f : DeviceFault) (reply : Reply) (d1 : Option Cause) → reply ≡ refusal (Device f) → d1 ≡ down_after d (Device f) → Stays k0 k1 → o1 ≡ o → GetFault (tx_in k0) f (tx_in k1).machine → Fails old call (Device f) reply k1 o1 d1
-  unread call can f reply d1 reply_is down rest files_is h =
-      failed old k0 k1 o o1 d is up call (Device f) reply d1 reply_is down (ap (λ (k : KfsState). k.charge) rest) (ap (λ (k : KfsState). k.chunks) rest) (ap (λ (k : KfsState). k.keys) rest) (ap (λ (k : KfsState). k.pages) rest) files_is
-      (caused_counts (tx_in k0).machine f (tx_in k1).machine awake (alone_caused (tx_in k0).machine f (tx_in k1).machine h.1))
-      (unread_falls b (record b { tx = tx_in k1; down = Some (cause_of f) }) call f can up refl refl h)
 
   -- ---- write
 
@@ -107,7 +94,7 @@ module _ (old : SessionState) (k0 k1 : KfsState) (o o1 : Opens) (d : Option Caus
     write_failed (No e) reply d1 (inr (it, judged, (files, inr (short, full, (denied, same))))) reply_is down =
         refused call e reply d1 reply_is down same files (WriteEvents.write_denied b fd given it judged short full e up denied)
     write_failed (Device f) reply d1 (inl h) reply_is down = absurd h
-    write_failed (Device f) reply d1 (inr (it, judged, (files, short, full, (rest, inl h)))) reply_is down = unread call can f reply d1 reply_is down rest files h
+    write_failed (Device f) reply d1 (inr (it, judged, (files, short, full, (rest, inl h)))) reply_is down = unread old k0 k1 o o1 d is up call f reply d1 reply_is down awake rest files (λ live sh. can live.world) h
     write_failed (Device f) reply d1 (inr (it, judged, (files, short, full, (rest, inr (size, ok, h))))) reply_is down =
         let p = place_of it.1 in
         let count = fits_in (space_in k0) size p (length given) in
@@ -146,7 +133,7 @@ module _ (old : SessionState) (k0 k1 : KfsState) (o o1 : Opens) (d : Option Caus
       pwrite_failed (No e) reply d1 (inr (it, judged, (files, inr (short, full, (denied, same))))) reply_is down =
           refused pcall e reply d1 reply_is down same files (WriteEvents.pwrite_denied b fd given offset it judged short full e up denied)
       pwrite_failed (Device f) reply d1 (inl h) reply_is down = absurd h
-      pwrite_failed (Device f) reply d1 (inr (it, judged, (files, short, full, (rest, inl h)))) reply_is down = unread pcall pcan f reply d1 reply_is down rest files h
+      pwrite_failed (Device f) reply d1 (inr (it, judged, (files, short, full, (rest, inl h)))) reply_is down = unread old k0 k1 o o1 d is up pcall f reply d1 reply_is down awake rest files (λ live sh. pcan live.world) h
       pwrite_failed (Device f) reply d1 (inr (it, judged, (files, short, full, (rest, inr (size, ok, h))))) reply_is down =
           let p = natural offset in
           let count = fits_in (space_in k0) size p (length given) in
@@ -159,4 +146,4 @@ pub no_memory : (old : SessionState) (k0 : KfsState) (o : Opens) (d : Option Cau
     → (fault : CoreFault) (reply : Reply) (d1 : Option Cause) → fault ≡ Device Memory → reply ≡ refusal fault → d1 ≡ down_after d fault → Fails old call fault reply k0 o d1
 no_memory old k0 o d is up awake age call can fault reply d1 memory reply_is down =
     subst (λ f. Fails old call f reply k0 o d1) (sym memory)
-    (unread old k0 k0 o o d is up awake age call can Memory reply d1 (reply_is ∙ ap refusal memory) (down ∙ ap (down_after d) memory) refl refl (inl (refl, refl), (refl, refl)))
+    (unread old k0 k0 o o d is up call Memory reply d1 (reply_is ∙ ap refusal memory) (down ∙ ap (down_after d) memory) awake refl refl (λ live sh. can live.world) (inl (refl, refl), (refl, refl)))

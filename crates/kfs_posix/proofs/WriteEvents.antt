@@ -1,5 +1,5 @@
 -- `write` and `pwrite` of a session as events of a life.
-use Rattle.std.proofs.Common.{◌≡◌, ℕ, ◌<◌, ◌≤◌, ◌+◌, ◌-◌, ◌==◌, ◌&&◌, true, false, cond, not, max, Bool, refl, sym, ◌∙◌, ap, subst, arith, List, length, take, Option, Some, None, Result, Ok, Err, nat_lt, nat_le, ℤ}
+use Rattle.std.proofs.Common.{◌≡◌, ℕ, ◌<◌, ◌≤◌, ◌+◌, ◌-◌, ◌==◌, true, false, cond, not, max, Bool, refl, sym, ◌∙◌, ap, subst, arith, List, length, take, Option, Some, None, Result, Ok, Err, nat_lt, nat_le, ℤ}
 use Rattle.std.specs.Ordering.{nat_cmp}
 use Rattle.std.specs.Option.{option_map, option_and_then}
 use Rattle.std.specs.FinMap.{find, put}
@@ -40,10 +40,11 @@ use Rattle.kfs_posix.specs.Writing.{writable_in, writable_at, place_of, behind, 
 use Rattle.kfs_posix.specs.Volume.{Volume, limits_of}
 use Rattle.kfs_posix.specs.Showing.{ShowsLive, GoesOn}
 use Rattle.kfs_posix.proofs.Held.{world_in, file_is, descriptor_is, with_file_desk, file_holds, moved_knows, content_known}
-use Rattle.kfs_posix.proofs.ReadGoes.{file_bytes, as_described}
+use Rattle.kfs_posix.proofs.ReadGoes.{parted, refused_at, file_bytes, as_described}
 use Rattle.kfs_posix.proofs.WriteJudges.{relengthed_knows, same_it, relengthed_desk, relengthed_at, relengthed_holds, moved_is, fits_short, fits_room, writable_same, writable_is, writes_some, wrote_after}
 use Rattle.kfs_posix.proofs.WriteGoes.{Puts}
 use Rattle.kfs_posix.proofs.Going.{spare, idle_goes}
+use Rattle.kfs_posix.proofs.Rooms.{room_of}
 use Rattle.kfs_posix.proofs.Calls.{stands_of}
 
 abbrev pub space_of : Volume → Space
@@ -66,18 +67,11 @@ module _ (old : Volume) (live : Live) (sh : ShowsLive old live) where
   pub space_is : IsSpaceOf (space_of old) (limits_of old) t
   space_is = record { keys = refl; pages = refl; charge = sh.charged; chunks = sh.chunked }
 
-  parts : (nat_le (charge t) old.keys ≡ true) × (nat_le (chunks t) old.pages ≡ true)
-  parts = by (nat_le (charge t) old.keys) (nat_le (chunks t) old.pages) sh.room
-    where
-      by : (a b : Bool) → (a && b) ≡ true → (a ≡ true) × (b ≡ true)
-      by true b e = (refl, e)
-      by false b e = absurd (cc)
-
   pub keys_fit : charge t ≤ old.keys
-  keys_fit = let h = parts.0 in grind (arith, nat_tests)
+  keys_fit = (room_of (limits_of old) t sh.room).0
 
   pub pages_fit : chunks t ≤ old.pages
-  pages_fit = let h = parts.1 in grind (arith, nat_tests)
+  pages_fit = (room_of (limits_of old) t sh.room).1
 
 module _ (old : Volume) (fd : ℕ) (given : List ℕ) where
   abbrev o : Opens
@@ -369,26 +363,12 @@ module _ (old : Volume) (fd : ℕ) (given : List ℕ) where
         ∙ ap (settled w) (looked_up (opened w.desk fd) (tail w))
         ∙ ap (λ x. settled w (x >>= tail w)) (writable_same t o fd)
 
-    pparted : (it : ℕ × OpenFile) → writable_at o fd offset ≡ Ok it → (writable_in o fd ≡ Ok it) × (is_negative offset ≡ false)
-    pparted it e = by (writable_in o fd) (is_negative offset) refl e
-      where
-        by : (r : Result (ℕ × OpenFile) Errno) (b : Bool) → is_negative offset ≡ b → (r >>= λ it. (EINVAL when b) >> Ok it) ≡ Ok it → (r ≡ Ok it) × (is_negative offset ≡ false)
-        by (Err f) b n e = absurd (cc)
-        by (Ok x) true n e = absurd (cc)
-        by (Ok x) false n e = (e, n)
-
     pub pwrite_refused : (e : Errno) → old.down ≡ None → writable_at o fd offset ≡ Err e → GoesOn old (lines.Call pcall) (answers.Reply (replies.Err e)) old
-    pwrite_refused e up is = idle_goes old pcall (replies.Err e) up (λ w x. refl) refl (λ live sh. pstepped live sh ∙ by live (writable_in o fd) (is_negative offset) is ∙ as_it_was live sh (replies.Err e))
-      where
-        by : (live : Live) (r : Result (ℕ × OpenFile) Errno) (b : Bool) → (r >>= λ it. (EINVAL when b) >> Ok it) ≡ Err e
-            → settled (world_in live.world.tree o) (as_described r >>= λ it. (EINVAL when b) >> (writes (limits_of old) (world_in live.world.tree o) (it.0, pointed it.1) given >>= λ after. leaves (world_in live.world.tree o) after.world.tree after.reply)) ≡ before live.world.tree (replies.Err e)
-        by live (Err f) b e' = let same : f ≡ e = cc in ap (λ x. before live.world.tree (replies.Err x)) same
-        by live (Ok x) true e' = let same : EINVAL ≡ e = cc in ap (λ x. before live.world.tree (replies.Err x)) same
-        by live (Ok x) false e' = absurd (cc)
+    pwrite_refused e up is = idle_goes old pcall (replies.Err e) up (λ w x. refl) refl (λ live sh. pstepped live sh ∙ refused_at (world_in live.world.tree o) (writable_in o fd) (is_negative offset) _ e is ∙ as_it_was live sh (replies.Err e))
 
     module _ (it : ℕ × OpenFile) (writer : writable_at o fd offset ≡ Ok it) where
       writer_in : writable_in o fd ≡ Ok it
-      writer_in = (pparted it writer).0
+      writer_in = (parted (writable_in o fd) (is_negative offset) it writer).0
 
       pub p_may : (open_at o fd ≡ Some it) × (it.1.it.write ≡ true)
       p_may = writable_is o fd it writer_in
@@ -407,7 +387,7 @@ module _ (old : Volume) (fd : ℕ) (given : List ℕ) where
           let w = world_in live.world.tree o in
           pstepped live sh
           ∙ ap (λ r. settled w (as_described r >>= tail w)) writer_in
-          ∙ (λ i. settled w ((EINVAL when (pparted it writer).1 i) >> (pall live (e i) (f i) >>= left live)))
+          ∙ (λ i. settled w ((EINVAL when (parted (writable_in o fd) (is_negative offset) it writer).1 i) >> (pall live (e i) (f i) >>= left live)))
 
       pub pwrite_long : old.down ≡ None → nat_lt greatest_count m ≡ true → GoesOn old (lines.Call pcall) (answers.Reply (replies.Err EINVAL)) old
       pwrite_long up long = idle_goes old pcall (replies.Err EINVAL) up (λ w x. refl) refl (λ live sh. pbegun live sh true (is_empty given) long refl ∙ as_it_was live sh (replies.Err EINVAL))

@@ -1,5 +1,5 @@
 -- Written bytes as an event of a life, whichever call writes them.
-use Rattle.std.proofs.Common.{◌≡◌, ℕ, ◌<◌, ◌≤◌, ◌+◌, ◌-◌, ◌^◌, inl, inr, true, false, cond, Bool, refl, sym, ◌∙◌, ap, subst, arith, List, length, Some, None}
+use Rattle.std.proofs.Common.{◌≡◌, ℕ, ◌<◌, ◌≤◌, ◌+◌, ◌-◌, ◌^◌, inl, inr, true, sym, ◌∙◌, ap, subst, arith, List, length, Some, None}
 use Rattle.kv_device.specs.declared.fault.DeviceFault.{DeviceFault}
 use Rattle.kfs_path.specs.declared.call.Call.{Call}
 use Rattle.kfs_path.specs.declared.call.Cause.{Cause}
@@ -11,7 +11,7 @@ use Rattle.kfs_model.specs.Tree.{Tree, node_of, with_node, written, charge, chun
 use Rattle.kfs_model.specs.Step.{World, After, step}
 use Rattle.kfs_model.specs.Change.{weight, spanned, is_boundary}
 use Rattle.kfs_model.specs.Life.{Live, can_fail}
-use Rattle.kfs_tx.specs.Tx.{Tx, SameBounds, Fallen, seen, committed, counted, one_change, with_super, is_full}
+use Rattle.kfs_tx.specs.Tx.{Tx, SameBounds, Fallen, seen, one_change, with_super, is_full}
 use Rattle.kfs_core.specs.Files.{PutsBytes, WriteFault, with_length}
 use Rattle.kfs_core.specs.Room.{grown, chunks_for}
 use Rattle.kfs_core.proofs.FileEffects.{put_numbers, length_ready, length_few, new_is_tree, new_shows, charge_after, chunks_after}
@@ -23,6 +23,8 @@ use Rattle.kfs_posix.specs.Showing.{ShowsLive, IsWhole, GoesOn}
 use Rattle.kfs_posix.proofs.Changing.{IsPut, change_shown, sees, to_save}
 use Rattle.kfs_posix.proofs.Going.{Fell, spare, spare_free, as_before, as_after, change_goes_at, fall_goes, Refuses}
 use Rattle.kfs_posix.proofs.Calls.{stands_of, room_for}
+use Rattle.kfs_file.specs.Contents.{pending_of}
+use Rattle.kfs_posix.proofs.Planned.{changed_same, changed_bounds}
 use Rattle.kfs_posix.proofs.Fault.{SameMachine}
 use Rattle.kfs_core.specs.declared.fault.CoreFault.TheVariants.{Device}
 
@@ -37,11 +39,6 @@ pub record Puts (old : Volume) (n size p : ℕ) (given : List ℕ) (call : Call)
   pub fits : p + length given ≤ greatest_length
   pub some : 0 < length given
   pub room : has_room (limits_of old) (with_node live.world.tree n (File (written bytes p given))) ≡ true
-
--- a boundary leaves the device's counts
-pub keeps : (r : Tx) (b : Bool) → SameBounds r.machine (cond b (committed r) r).machine × SameMachine r.machine (cond b (committed r) r).machine
-keeps r true = (record { most_cuts = refl; most_faults = refl; room_keys = refl; room_pages = refl }, record { up = refl; cuts = refl; faults = refl })
-keeps r false = (record { most_cuts = refl; most_faults = refl; room_keys = refl; room_pages = refl }, record { up = refl; cuts = refl; faults = refl })
 
 module _ (old : Volume) (n size p : ℕ) (given : List ℕ) (call : Call) (reply : Reply) (files : Opens) (count : old.tx.changes + 1 < 2 ^ 63) where
   abbrev more : ℕ
@@ -88,13 +85,8 @@ module _ (old : Volume) (n size p : ℕ) (given : List ℕ) (call : Call) (reply
 
     pub same_numbers : SameMachine old.tx.machine (one_change (r size) w put.next).machine × SameBounds old.tx.machine (one_change (r size) w put.next).machine
     same_numbers =
-        let numbers = put_numbers old.tx put n p given puts (grown size p (length given)) in
-        let k = keeps (counted (r size) w put.next) (is_full ((r size).since + 1) ((r size).weight + w)) in
-        let a = k.1 in
-        let b = k.0 in (
-          record { up = a.up ∙ numbers.up; cuts = a.cuts ∙ numbers.cuts; faults = a.faults ∙ numbers.faults },
-          record { most_cuts = b.most_cuts ∙ numbers.bounds.most_cuts; most_faults = b.most_faults ∙ numbers.bounds.most_faults; room_keys = b.room_keys ∙ numbers.bounds.room_keys; room_pages = b.room_pages ∙ numbers.bounds.room_pages },
-        )
+        let only : r size ≡ pending_of (r size) old.tx = ap (λ (x : Tx). record x { machine = record x.machine { pending = (r size).machine.pending } }) puts.writes.same in
+        (changed_same old.tx (r size) only w put.next, changed_bounds old.tx (r size) only w put.next)
 
     pub put_goes : old.down ≡ None → ((live : Live) → ShowsLive old live → Puts old n size p given call reply files live)
         → GoesOn old (lines.Call call) (answers.Reply reply) (record old { tx = one_change (r size) w put.next; charge = old.charge + more; chunks = old.chunks + more; files = files })

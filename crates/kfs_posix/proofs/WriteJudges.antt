@@ -1,5 +1,5 @@
 -- Writing to a descriptor, in the tree that is shown.
-use Rattle.std.proofs.Common.{◌≡◌, ℕ, ◌<◌, ◌≤◌, ◌+◌, ◌-◌, ◌==◌, ◌&&◌, inl, inr, true, false, cond, not, Bool, refl, sym, ◌∙◌, ap, subst, arith, List, [], ◌∷◌, length, take, replicate, Option, Some, None, Result, Ok, Err, nat_lt, nat_le}
+use Rattle.std.proofs.Common.{◌≡◌, ℕ, ◌<◌, ◌≤◌, ◌+◌, ◌-◌, ◌==◌, ◌&&◌, inl, inr, true, false, cond, not, Bool, refl, sym, ◌∙◌, ap, subst, arith, List, [], ◌∷◌, length, take, replicate, Option, Some, None, Result, Ok, nat_lt, nat_le}
 use Rattle.std.specs.Ordering.{nat_cmp}
 use Rattle.std.specs.Option.{option_map}
 use Rattle.std.specs.FinMap.{find, put}
@@ -15,7 +15,7 @@ use Rattle.kfs_model.specs.declared.Node.TheVariants.{File}
 use Rattle.kfs_model.specs.Ladder.{◌>>=◌, ◌>>◌, ◌when◌}
 use Rattle.kfs_model.specs.Tree.{Tree, Limits, node_of, with_node, written, fits, fits_at, has_room, charge, chunks, greatest_length, IsTree}
 use Rattle.kfs_model.specs.Desk.{Desk, is_open, opened, with_description}
-use Rattle.kfs_model.specs.Step.{World, After, or_else, writes, content, greatest_count, answers as answered_by}
+use Rattle.kfs_model.specs.Step.{World, After, or_else, greatest_count, answers as answered_by}
 use Rattle.kfs_laws.specs.Worlds.{IsDesk}
 use Rattle.kfs_laws.proofs.Fitting.{fits_most}
 use Rattle.kfs_laws.proofs.Lookups.{number_put, number_other, decide_number}

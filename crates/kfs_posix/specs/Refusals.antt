@@ -7,7 +7,7 @@ use Rattle.kfs_tx.specs.Tx.{seen, age_of}
 use Rattle.kfs_core.specs.declared.fault.CoreFault.{CoreFault}
 use Rattle.kfs_core.specs.Core.{KfsState, tx_in}
 use Rattle.kfs_core.specs.Flat.{place_in}
-use Rattle.kfs_core.specs.Gives.{CommitFails, LeavesAtFault}
+use Rattle.kfs_core.specs.Returned.{CommitFails, LeavesAtFault}
 use Rattle.kfs_core.specs.Making.{MkdirFails}
 use Rattle.kfs_core.specs.Room.{space_in}
 use Rattle.kfs_core.specs.Working.{WorkFails}

@@ -1,13 +1,29 @@
 // The calls by paths.
+ghost use Rattle.std.specs.Prelude.{◌≡◌};
+ghost use Rattle.kfs_posix.specs.Looking.{told_by};
 ghost use Rattle.kfs_posix.specs.Answering.{Answers, HasFewKeys, IsYoung};
 
 use crate::opening::open;
 use crate::paths::{look_up, make, names};
 use crate::resizing::truncate;
 use crate::session::{Session, refuse};
+use kfs_objects::Inode;
 use kfs_path::{Flags, Reply};
 use kv_device::Device;
 use std::alloc::Global;
+
+/// What is told of a node.
+fn told(node: u64, it: &Inode) -> Reply
+    ensures { result ≡ told_by (node, it.now.kind, it.now.length) }
+{
+    if it.kind == 1 {
+        return Reply::Dir { node };
+    }
+    Reply::File {
+        node,
+        length: it.length,
+    }
+}
 
 impl<D: Device> Session<D> {
     ghost use Rattle.kfs_path.specs.declared.call.Call.TheVariants as calls;
@@ -35,15 +51,7 @@ impl<D: Device> Session<D> {
             return Reply::Off;
         }
         match look_up(alloc, &mut self.kfs, path) {
-            Ok((node, it)) => {
-                if it.kind == 1 {
-                    return Reply::Dir { node };
-                }
-                Reply::File {
-                    node,
-                    length: it.length,
-                }
-            }
+            Ok((node, it)) => told(node, &it),
             Err(fault) => refuse(&mut self.down, fault),
         }
     }

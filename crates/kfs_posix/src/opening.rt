@@ -3,7 +3,7 @@ ghost use Rattle.std.specs.Prelude.{◌≡◌, ◌≤◌, ◌<◌, ◌-◌, ◌^
 ghost use Rattle.kfs_objects.specs.Keys.{IsNamed};
 ghost use Rattle.kfs_tx.specs.Tx.{age_of, Aged, seen};
 ghost use Rattle.kfs_core.specs.Core.{tx_in};
-ghost use Rattle.kfs_core.specs.Gives.{Gives, IsOwn};
+ghost use Rattle.kfs_core.specs.Returned.{JudgesAs, IsOwn};
 ghost use Rattle.kfs_core.specs.Room.{space_in};
 ghost use Rattle.kfs_core.specs.Spot.{route_of};
 ghost use Rattle.kfs_posix.specs.Opening.{opened_file, is_contrary, barred, free_for_in, open_there_in, open_new_in, open_at_in, open_in, OpenDoes};
@@ -68,7 +68,7 @@ fn free_for(
     trailing: bool,
     flags: Flags,
 ) -> Result<u32, CoreFault>
-    ensures gives { Gives (λ fd. fd) result (free_for_in files.old.opens is_dir trailing flags) }
+    ensures gives { JudgesAs (λ fd. fd) result (free_for_in files.old.opens is_dir trailing flags) }
     ensures own { IfErr result IsOwn }
     ensures low { IfOk result (λ fd. fd < 64) }
     ensures room { OnOk result (1 ≤ files.new.spare) }

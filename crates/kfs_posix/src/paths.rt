@@ -5,7 +5,7 @@ ghost use Rattle.kfs_objects.specs.Keys.{IsNamed};
 ghost use Rattle.kfs_tx.specs.Tx.{age_of, Aged, seen};
 ghost use Rattle.kfs_core.specs.Core.{tx_in, Stays};
 ghost use Rattle.kfs_core.specs.Flat.{place_in};
-ghost use Rattle.kfs_core.specs.Gives.{Gives, IsOwn, Leaves};
+ghost use Rattle.kfs_core.specs.Returned.{JudgesAs, IsOwn, Leaves};
 ghost use Rattle.kfs_core.specs.Making.{MkdirDoes};
 ghost use Rattle.kfs_core.specs.Spot.{route_of};
 ghost use Rattle.kfs_posix.specs.Looking.{found_by, names_by};
@@ -20,7 +20,7 @@ use std::alloc::Global;
 /// Cuts a path into pieces. Errors: ENOENT for an empty path, ENAMETOOLONG for a piece of more than 255
 /// bytes or a path of more than 1,024.
 pub fn syntax(alloc: Global, bytes: &[u8]) -> Result<Path, CoreFault>
-    ensures gives { Gives route_of result (syntax bytes.now) }
+    ensures gives { JudgesAs route_of result (syntax bytes.now) }
     ensures named { IfOk result (λ path. All IsNamed path.pieces) }
     ensures own { IfErr result IsOwn }
 {
@@ -35,7 +35,7 @@ pub fn look_up<D: Device>(
     path: &[u8],
 ) -> Result<(u64, Inode), CoreFault>
     requires { age_of kfs.old.running < 2 ^ 63 - 2 ^ 39 }
-    ensures gives { Gives (λ it. (it.0, it.1.kind, it.1.length)) result (found_by (seen (tx_in kfs.old)) path.now) }
+    ensures gives { JudgesAs (λ it. (it.0, it.1.kind, it.1.length)) result (found_by (seen (tx_in kfs.old)) path.now) }
     ensures leaves { Leaves (tx_in kfs.old) result (tx_in kfs.new) }
     ensures rest { Stays kfs.old kfs.new }
     ensures age { Aged kfs.old.running kfs.new.running 0 }
@@ -49,7 +49,7 @@ pub fn look_up<D: Device>(
 /// The names in the directory that a path names.
 pub fn names<D: Device>(alloc: Global, kfs: &mut Kfs<D>, path: &[u8]) -> Result<Names, CoreFault>
     requires { age_of kfs.old.running < 2 ^ 63 - 2 ^ 39 }
-    ensures gives { Gives (λ names. names) result (names_by (seen (tx_in kfs.old)) path.now) }
+    ensures gives { JudgesAs (λ names. names) result (names_by (seen (tx_in kfs.old)) path.now) }
     ensures leaves { Leaves (tx_in kfs.old) result (tx_in kfs.new) }
     ensures rest { Stays kfs.old kfs.new }
     ensures age { Aged kfs.old.running kfs.new.running 0 }

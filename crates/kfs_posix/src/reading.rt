@@ -3,7 +3,7 @@ ghost use Rattle.std.specs.Prelude.{◌≡◌, ◌<◌, ◌-◌, ◌^◌};
 ghost use Rattle.kfs_model.specs.Step.{natural};
 ghost use Rattle.kfs_tx.specs.Tx.{age_of, Aged, seen};
 ghost use Rattle.kfs_core.specs.Core.{tx_in, Stays};
-ghost use Rattle.kfs_core.specs.Gives.{Leaves};
+ghost use Rattle.kfs_core.specs.Returned.{Leaves};
 ghost use Rattle.kfs_posix.specs.Reading.{readable_in, readable_at, ReadDoes, PreadDoes};
 
 use crate::open_files::{OpenFile, OpenFiles, at_offset};

@@ -4,7 +4,7 @@ ghost use Rattle.kfs_objects.specs.Keys.{IsNamed};
 ghost use Rattle.kfs_model.specs.Step.{natural};
 ghost use Rattle.kfs_tx.specs.Tx.{age_of, Aged, seen};
 ghost use Rattle.kfs_core.specs.Core.{tx_in, Stays};
-ghost use Rattle.kfs_core.specs.Gives.{Gives, Leaves};
+ghost use Rattle.kfs_core.specs.Returned.{JudgesAs, Leaves};
 ghost use Rattle.kfs_core.specs.Room.{space_in};
 ghost use Rattle.kfs_core.specs.Spot.{route_of};
 ghost use Rattle.kfs_posix.specs.Resizing.{resize_node, ftruncate_in, named_file_in, truncate_by, LengthDoes};
@@ -58,7 +58,7 @@ pub fn ftruncate<D: Device>(
 fn named_file<D: Device>(alloc: Global, kfs: &mut Kfs<D>, path: &Path) -> Result<u64, CoreFault>
     requires age { age_of kfs.old.running < 2 ^ 63 - 2 ^ 39 }
     requires named { All IsNamed path.now.pieces }
-    ensures gives { Gives (λ n. n) result (named_file_in (seen (tx_in kfs.old)) (route_of path.now)) }
+    ensures gives { JudgesAs (λ n. n) result (named_file_in (seen (tx_in kfs.old)) (route_of path.now)) }
     ensures leaves { Leaves (tx_in kfs.old) result (tx_in kfs.new) }
     ensures rest { Stays kfs.old kfs.new }
     ensures age { Aged kfs.old.running kfs.new.running 0 }

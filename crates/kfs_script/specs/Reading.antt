@@ -8,10 +8,10 @@ use Rattle.kfs_script.specs.declared.fault.ScriptFault.TheVariants as faults
 use Rattle.kfs_script.specs.Script.{pieces_at, ◌>>=◌, plain, byte_of}
 
 -- what was read is what the definition gives; outside the grammar it gives nothing
-abbrev pub Gives : {X : Type 0} → Result X LineFault → Option X → Type 0
-Gives (Ok x) read = read ≡ Some x
-Gives (Err Outside) read = read ≡ None
-Gives (Err Memory) read = Unit {0}
+abbrev pub ReadsPart : {X : Type 0} → Result X LineFault → Option X → Type 0
+ReadsPart (Ok x) read = read ≡ Some x
+ReadsPart (Err Outside) read = read ≡ None
+ReadsPart (Err Memory) read = Unit {0}
 
 -- the pieces of what is left, where something is
 abbrev pub pieces_left : ℕ → Option (List ℕ) → List (List ℕ)

@@ -3,7 +3,7 @@
 ghost use Rattle.std.specs.Prelude.{◌≡◌};
 ghost use Rattle.std.specs.Option.{option_copied, option_map};
 ghost use Rattle.kfs_script.specs.Script.{behind, pieces_at, two, plain_data, byte_at, fill_data, data_of};
-ghost use Rattle.kfs_script.specs.Reading.{Gives};
+ghost use Rattle.kfs_script.specs.Reading.{ReadsPart};
 
 use crate::cutting::{behind, two_at};
 use crate::escape::{byte_of, esc_of};
@@ -14,7 +14,7 @@ use std::alloc::Global;
 
 #[tactic(auto, unfolding(crate::specs::Script::plain_data))]
 fn plain_data(alloc: Global, word: &[u8]) -> Result<Data, LineFault>
-    ensures { Gives result (plain_data word.now) }
+    ensures { ReadsPart result (plain_data word.now) }
 {
     let bytes = esc_of(alloc, word)?;
     if bytes.bytes().len() > 1_048_576 {
@@ -45,7 +45,7 @@ fn fill_data(word: &[u8]) -> Option<Data>
 /// The bytes that a word stands for: those behind `t:`, or those that `f:` counts.
 #[tactic(auto, unfolding(crate::specs::Script::data_of))]
 pub(crate) fn data_of(alloc: Global, word: &[u8]) -> Result<Data, LineFault>
-    ensures { Gives result (data_of word.now) }
+    ensures { ReadsPart result (data_of word.now) }
 {
     if let Some(bytes) = behind(b"t:", word) {
         return plain_data(alloc, bytes);

@@ -3,7 +3,7 @@
 ghost use Rattle.std.specs.Prelude.{◌≡◌, ◌<◌, ◌^◌, length, IfSome};
 ghost use Rattle.std.specs.Option.{option_map};
 ghost use Rattle.kfs_script.specs.Script.{hex_of, byte_of, is_plain, plain, esc_of};
-ghost use Rattle.kfs_script.specs.Reading.{Gives, next_of};
+ghost use Rattle.kfs_script.specs.Reading.{ReadsPart, next_of};
 
 use crate::fault::LineFault;
 use crate::number::is_digit;
@@ -59,7 +59,7 @@ fn next_of(word: &[u8]) -> Option<(u8, &[u8])>
 
 /// The bytes that a word spells.
 pub(crate) fn esc_of(alloc: Global, word: &[u8]) -> Result<Text, LineFault>
-    ensures { Gives result (esc_of word.now) }
+    ensures { ReadsPart result (esc_of word.now) }
 {
     let mut text = Text::new(alloc, &[])?;
     let mut rest = word;

@@ -3,7 +3,7 @@
 ghost use Rattle.std.specs.Prelude.{◌≡◌, false, IfOk, IfSome};
 ghost use Rattle.std.specs.Option.{option_copied};
 ghost use Rattle.kfs_script.specs.Script.{path_form, number_form, bare_form, open_form, read_form, write_form, pread_form, pwrite_form, lseek_form, truncate_form, ftruncate_form, rename_form, format_form, cut_form, fail_form, form_of, line_of, line_at, is_skipped, is_format, IsLine};
-ghost use Rattle.kfs_script.specs.Reading.{Gives, pieces_left};
+ghost use Rattle.kfs_script.specs.Reading.{ReadsPart, pieces_left};
 
 use crate::command::{
     BareCommand, Command, NumberCommand, PathCommand, bare_line, command_of, number_call, path_call,
@@ -20,7 +20,7 @@ use std::alloc::Global;
 
 #[tactic(auto, unfolding(crate::specs::Script::path_form))]
 fn path_form(alloc: Global, command: PathCommand, words: Option<&[u8]>) -> Result<Line, LineFault>
-    ensures read { Gives result (path_form command (pieces_left 32 (option_copied words.entry))) }
+    ensures read { ReadsPart result (path_form command (pieces_left 32 (option_copied words.entry))) }
     ensures within { IfOk result IsLine }
 {
     let Some(word) = one(words) else {
@@ -52,7 +52,7 @@ fn bare_form(command: BareCommand, words: Option<&[u8]>) -> Option<Line>
 
 #[tactic(auto, unfolding(crate::specs::Script::open_form))]
 fn open_form(alloc: Global, words: Option<&[u8]>) -> Result<Line, LineFault>
-    ensures read { Gives result (open_form (pieces_left 32 (option_copied words.entry))) }
+    ensures read { ReadsPart result (open_form (pieces_left 32 (option_copied words.entry))) }
     ensures within { IfOk result IsLine }
 {
     let Some((path, flags)) = two(words) else {
@@ -78,7 +78,7 @@ fn read_form(words: Option<&[u8]>) -> Option<Line>
 
 #[tactic(auto, unfolding(crate::specs::Script::write_form))]
 fn write_form(alloc: Global, words: Option<&[u8]>) -> Result<Line, LineFault>
-    ensures read { Gives result (write_form (pieces_left 32 (option_copied words.entry))) }
+    ensures read { ReadsPart result (write_form (pieces_left 32 (option_copied words.entry))) }
     ensures within { IfOk result IsLine }
 {
     let Some((fd, bytes)) = two(words) else {
@@ -105,7 +105,7 @@ fn pread_form(words: Option<&[u8]>) -> Option<Line>
 
 #[tactic(auto, unfolding(crate::specs::Script::pwrite_form))]
 fn pwrite_form(alloc: Global, words: Option<&[u8]>) -> Result<Line, LineFault>
-    ensures read { Gives result (pwrite_form (pieces_left 32 (option_copied words.entry))) }
+    ensures read { ReadsPart result (pwrite_form (pieces_left 32 (option_copied words.entry))) }
     ensures within { IfOk result IsLine }
 {
     let Some((fd, bytes, offset)) = three(words) else {
@@ -135,7 +135,7 @@ fn lseek_form(words: Option<&[u8]>) -> Option<Line>
 
 #[tactic(auto, unfolding(crate::specs::Script::truncate_form))]
 fn truncate_form(alloc: Global, words: Option<&[u8]>) -> Result<Line, LineFault>
-    ensures read { Gives result (truncate_form (pieces_left 32 (option_copied words.entry))) }
+    ensures read { ReadsPart result (truncate_form (pieces_left 32 (option_copied words.entry))) }
     ensures within { IfOk result IsLine }
 {
     let Some((path, length)) = two(words) else {
@@ -161,7 +161,7 @@ fn ftruncate_form(words: Option<&[u8]>) -> Option<Line>
 
 #[tactic(auto, unfolding(crate::specs::Script::rename_form))]
 fn rename_form(alloc: Global, words: Option<&[u8]>) -> Result<Line, LineFault>
-    ensures read { Gives result (rename_form (pieces_left 32 (option_copied words.entry))) }
+    ensures read { ReadsPart result (rename_form (pieces_left 32 (option_copied words.entry))) }
     ensures within { IfOk result IsLine }
 {
     let Some((old, new)) = two(words) else {
@@ -205,7 +205,7 @@ fn fail_form(words: Option<&[u8]>) -> Option<Line>
 
 /// A line, where there is one.
 fn found(line: Option<Line>) -> Result<Line, LineFault>
-    ensures read { Gives result line }
+    ensures read { ReadsPart result line }
     ensures within { IfSome line IsLine → IfOk result IsLine }
 {
     match line {
@@ -216,7 +216,7 @@ fn found(line: Option<Line>) -> Result<Line, LineFault>
 
 /// The line of a command with the words behind it.
 fn form_of(alloc: Global, command: Command, words: Option<&[u8]>) -> Result<Line, LineFault>
-    ensures read { Gives result (form_of command (pieces_left 32 (option_copied words.entry))) }
+    ensures read { ReadsPart result (form_of command (pieces_left 32 (option_copied words.entry))) }
     ensures within { IfOk result IsLine }
 {
     match command {
@@ -240,7 +240,7 @@ fn form_of(alloc: Global, command: Command, words: Option<&[u8]>) -> Result<Line
 
 /// The line that the bytes spell.
 fn line_of(alloc: Global, text: &[u8]) -> Result<Line, LineFault>
-    ensures read { Gives result (line_of text.now) }
+    ensures read { ReadsPart result (line_of text.now) }
     ensures within { IfOk result IsLine }
 {
     let (word, words) = cut(text, b' ');
@@ -272,7 +272,7 @@ pub(crate) fn is_format(line: &Line) -> bool
 /// The line that the bytes spell, behind no line (`first`) or behind another.
 #[tactic(auto, unfolding(crate::specs::Script::line_at))]
 pub(crate) fn line_at(alloc: Global, first: bool, text: &[u8]) -> Result<Line, LineFault>
-    ensures read { Gives result (line_at first text.now) }
+    ensures read { ReadsPart result (line_at first text.now) }
     ensures within { IfOk result IsLine }
     ensures place { first ≡ false → IfOk result (λ line. is_format line ≡ false) }
 {

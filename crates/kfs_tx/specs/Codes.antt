@@ -17,15 +17,15 @@ abbrev pub transactions_code : Coded Transactions
 transactions_code = coded_list (coded_option changes_code)
 
 -- the counts, their bounds and the rooms
-abbrev pub Counts : Type 0
-Counts = ℕ × (ℕ × (ℕ × (ℕ × (ℕ × ℕ))))
+abbrev pub MachineCounts : Type 0
+MachineCounts = ℕ × (ℕ × (ℕ × (ℕ × (ℕ × ℕ))))
 
-abbrev pub counts_code : Coded Counts
-counts_code = coded× coded_ℕ (coded× coded_ℕ (coded× coded_ℕ (coded× coded_ℕ (coded× coded_ℕ coded_ℕ))))
+abbrev pub machine_counts_code : Coded MachineCounts
+machine_counts_code = coded× coded_ℕ (coded× coded_ℕ (coded× coded_ℕ (coded× coded_ℕ (coded× coded_ℕ coded_ℕ))))
 
 abbrev pub machine_code : Coded Machine
 machine_code =
-    code_by (Bool × (Objects × (Transactions × Counts))) (coded× coded_bool (coded× objects_code (coded× transactions_code counts_code)))
+    code_by (Bool × (Objects × (Transactions × MachineCounts))) (coded× coded_bool (coded× objects_code (coded× transactions_code machine_counts_code)))
     (λ m. (m.up, (m.stable, (m.pending, (m.cuts, (m.faults, (m.most_cuts, (m.most_faults, (m.room_keys, m.room_pages)))))))))
     (λ p. record {
       up = p.0;

@@ -2,7 +2,7 @@ use Rattle.std.proofs.Common.{◌+◌, ◌∙◌, ap, subst, arith}
 use Rattle.std.proofs.lemmas.Result.{err_from_is_err_and}
 use Rattle.kfs_tx.specs.Tx.{Tx, committed, seen, CommitFault}
 use Rattle.kfs_core.specs.Removing.{Goes, chunks_for}
-use Rattle.kfs_file.specs.Contents.{Fails}
+use Rattle.kfs_file.specs.Contents.{FailsWithin}
 use Rattle.kfs_core.proofs.Cleared.{one_cleared, commit_clears, delete_clears, fails_clear}
 use Rattle.kfs_core.proofs.Fewer.{goes_fewer}
 use Rattle.kfs_core.proofs.Fresh.{fresh_ready}
@@ -25,7 +25,7 @@ returns-in_err-drop_node-clause-err g c =
     let new = c.drop_node.new.running.tx.machine in
     let short = short_stands (seen c.args.running.now.tx) c.args.key.now c.orphan_of-node.result c.in_ok-it.it.kind c.in_ok-it.it.length c.requires.tidy (omega arith) c.orphan_of-node.ensures.is c.orphan_of-node.ensures.named c.in_ok-it.ensures.gives in
     rw (p.1, p.2) (fails_clear c.args.running.now.tx (1 + chunks_for c.in_ok-it.it.length) fault new c.requires.fresh (omega arith)
-    (subst (λ (r : Tx). Fails r (1 + chunks_for c.in_ok-it.it.length) fault new) c.in_ok-it.ensures.same c.in_err-drop_node.ensures.err))
+    (subst (λ (r : Tx). FailsWithin r (1 + chunks_for c.in_ok-it.it.length) fault new) c.in_ok-it.ensures.same c.in_err-drop_node.ensures.err))
 
 pub returns-in_err-commit-clause-err : goal.returns-in_err-commit-clause-err
 returns-in_err-commit-clause-err g c =

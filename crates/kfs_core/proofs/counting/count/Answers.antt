@@ -5,7 +5,8 @@ use Rattle.kv_base.specs.declared.pairs.Pair.{Pair}
 use Rattle.kv_device.specs.Objects.{pairs_from, pair_of}
 use Rattle.kfs_objects.specs.Keys.{inode_front}
 use Rattle.kfs_tx.specs.Tx.{seen}
-use Rattle.kfs_core.specs.Counted.{charge_in, chunks_in, weigh, weigh_chunks}
+use Rattle.kfs_damages.specs.Damages.{keys_of, chunks_of}
+use Rattle.kfs_core.specs.Counted.{charge_in, chunks_in}
 use Rattle.kfs_core.proofs.Charged.{all_weighed, few_taken}
 use Rattle.kfs_core.proofs.Listed.{slice_of, listed_short, all_named, one_more_named, each_named}
 use Rattle.kfs_core.specs.Clearing.{AreNodesNamed}
@@ -27,7 +28,7 @@ pub returns-clause-charge : goal.returns-clause-charge
 unfolding charge_in
 returns-clause-charge g c =
     let m = seen c.args.running.now.tx in
-    c.loop-pair.invariant.charge ∙ ap (λ n. 1 + n) (all_weighed weigh c.as_slice-pair-items.result.now (take (2 ^ 32 - 1) (pairs_from m inode_front inode_front)) c.loop-pair.pair-index
+    c.loop-pair.invariant.charge ∙ ap (λ n. 1 + n) (all_weighed keys_of c.as_slice-pair-items.result.now (take (2 ^ 32 - 1) (pairs_from m inode_front inode_front)) c.loop-pair.pair-index
     (ap (map pair_of) c.as_slice-pair-items.ensures ∙ c.in_ok-pairs.ensures.found ∙ ap (λ (k : List ℕ). take (2 ^ 32 - 1) (pairs_from m k k)) c.in_ok-prefix.ensures)
     (omega arith))
 
@@ -35,7 +36,7 @@ pub returns-clause-chunks : goal.returns-clause-chunks
 unfolding chunks_in
 returns-clause-chunks g c =
     let m = seen c.args.running.now.tx in
-    c.loop-pair.invariant.chunks ∙ all_weighed weigh_chunks c.as_slice-pair-items.result.now (take (2 ^ 32 - 1) (pairs_from m inode_front inode_front)) c.loop-pair.pair-index
+    c.loop-pair.invariant.chunks ∙ all_weighed chunks_of c.as_slice-pair-items.result.now (take (2 ^ 32 - 1) (pairs_from m inode_front inode_front)) c.loop-pair.pair-index
     (ap (map pair_of) c.as_slice-pair-items.ensures ∙ c.in_ok-pairs.ensures.found ∙ ap (λ (k : List ℕ). take (2 ^ 32 - 1) (pairs_from m k k)) c.in_ok-prefix.ensures)
     (omega arith)
 
@@ -48,8 +49,8 @@ weigh_pair-keys-requires g c =
 
 pub loop-pair-preserved : goal.loop-pair-preserved
 loop-pair-preserved g c = record {
-  charge = (let more = sum_by_more (λ (p : Pair). weigh (read_inode p.value)) c.as_slice-pair-items.result.now c.loop-pair.pair-index c.pair-item.result c.loop-pair-test.true in let now = ap (λ (p : Pair). weigh (read_inode p.value)) c.pair-item.is in omega (arith, c.loop-pair.invariant.charge, c.weigh_pair-keys.ensures.keys, more, now));
-  chunks = (let more = sum_by_more (λ (p : Pair). weigh_chunks (read_inode p.value)) c.as_slice-pair-items.result.now c.loop-pair.pair-index c.pair-item.result c.loop-pair-test.true in let now = ap (λ (p : Pair). weigh_chunks (read_inode p.value)) c.pair-item.is in omega (arith, c.loop-pair.invariant.chunks, c.weigh_pair-keys.ensures.chunks, more, now));
+  charge = (let more = sum_by_more (λ (p : Pair). keys_of (read_inode p.value)) c.as_slice-pair-items.result.now c.loop-pair.pair-index c.pair-item.result c.loop-pair-test.true in let now = ap (λ (p : Pair). keys_of (read_inode p.value)) c.pair-item.is in omega (arith, c.loop-pair.invariant.charge, c.weigh_pair-keys.ensures.keys, more, now));
+  chunks = (let more = sum_by_more (λ (p : Pair). chunks_of (read_inode p.value)) c.as_slice-pair-items.result.now c.loop-pair.pair-index c.pair-item.result c.loop-pair-test.true in let now = ap (λ (p : Pair). chunks_of (read_inode p.value)) c.pair-item.is in omega (arith, c.loop-pair.invariant.chunks, c.weigh_pair-keys.ensures.chunks, more, now));
   named = one_more_named c.as_slice-pair-items.result.now c.loop-pair.pair-index c.pair-item.result c.loop-pair.invariant.named (slice_of c.as_slice-pair-items.result.now c.loop-pair.pair-index c.pair-item.result c.loop-pair-test.true c.pair-item.is) c.weigh_pair-keys.ensures.named;
   fewer = omega (arith, c.loop-pair.invariant.fewer, c.weigh_pair-keys.ensures.fewer);
   most = omega (arith, c.loop-pair.invariant.most, c.weigh_pair-keys.ensures.most);

@@ -2,6 +2,7 @@ use Rattle.std.proofs.Common.{◌<◌, ◌%◌, ◌/◌, ◌++◌, ◌∙◌, ap
 use Rattle.kfs_tx.specs.Tx.{Tx, seen}
 use Rattle.kfs_file.specs.Contents.{piece_at, piece_in}
 use Rattle.kfs_file.proofs.ReadingPieces.{reads_on}
+use Rattle.kfs_file.proofs.Spending.{aged_on}
 use Rattle.kfs_file.proofs.reading.read_at.Goals as goal
 
 pub loop-place-preserved : goal.loop-place-preserved
@@ -10,8 +11,6 @@ loop-place-preserved g c =
     let lt : c.loop-place.place < c.min-end.result = c.loop-place-test.true in
     let least = c.min-some.ensures in
     let end = c.min-end.ensures in
-    let first = before.age in
-    let then = c.in_ok-read_piece.ensures.age in
     record {
       from = omega (arith, least);
       within = omega (arith, least, lt);
@@ -19,5 +18,5 @@ loop-place-preserved g c =
           (c.in_ok-read_piece.ensures.ok ∙ ap (λ (r : Tx). c.loop-place.text ++ piece_at (piece_in (seen r) c.args.node (c.loop-place.place / 4096)) (c.loop-place.place % 4096) c.min-some.result) before.same)
           before.from lt (omega (arith, end)) c.requires.size least;
       same = c.in_ok-read_piece.ensures.same ∙ before.same;
-      age = record { device = record { later = omega (arith, first.device.later, then.device.later); bounded = omega (arith, first.device.bounded, then.device.bounded) }; whole = record { later = omega (arith, first.whole.later, then.whole.later); bounded = omega (arith, first.whole.bounded, then.whole.bounded) } };
+      age = aged_on c.args.running.now c.loop-place.running c.read_piece.new.running before.age c.in_ok-read_piece.ensures.age;
     }

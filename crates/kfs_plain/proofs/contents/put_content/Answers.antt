@@ -1,9 +1,9 @@
 use Rattle.std.proofs.Common.{◌≡◌, ◌+◌, ◌-◌, ◌∙◌, ap, arith, List, ℕ, length}
 use Rattle.std.specs.Ordering.{nat_cmp}
 use Rattle.kfs_model.specs.declared.Node.TheVariants.{File}
-use Rattle.kfs_model.specs.Tree.{with_node}
+use Rattle.kfs_model.specs.Tree.{with_node, chunks_for}
 use Rattle.kfs_model.specs.Step.{World, content}
-use Rattle.kfs_plain.specs.Tables.{tree_of, world_of, desk_of, limits_of, chunks_for}
+use Rattle.kfs_plain.specs.Tables.{tree_of, world_of, desk_of, limits_of}
 use Rattle.kfs_plain.proofs.Entries.{insert_entry_is_put, sorted_test}
 use Rattle.kfs_plain.proofs.Fitting.{counted-le, charge-counted, chunks-counted}
 use Rattle.kfs_plain.proofs.Keeping.{kept_at, sound-with_node}

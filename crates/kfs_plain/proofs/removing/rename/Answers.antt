@@ -5,7 +5,7 @@ use Rattle.kfs_model.specs.Step.{rename, leaves_swept, swept, is_same_place}
 use Rattle.kfs_path.specs.declared.call.Reply.TheVariants as replies
 use Rattle.kfs_plain.specs.Renaming.{rename_from, rename_to, judge_rename}
 use Rattle.kfs_plain.specs.Tables.{world_of, route_of, with_names}
-use Rattle.kfs_plain.proofs.Fails.{does_passed}
+use Rattle.kfs_plain.proofs.Passed.{does_passed}
 use Rattle.kfs_plain.proofs.Parts.{rename-read, rename-left, rename-placed, rename-same, rename-apart, rename-moves, rename_at}
 use Rattle.kfs_plain.proofs.removing.rename.Goals as goal
 

@@ -1,7 +1,7 @@
 use Rattle.std.proofs.Common.{◌≡◌, ◌≤◌, ◌<◌, ◌-◌, ◌*◌, ◌∙◌, sym, ap, subst, List, ℕ, length, min}
-use Rattle.kfs_model.specs.Tree.{charge, chunks}
+use Rattle.kfs_model.specs.Tree.{charge, chunks, chunks_for}
 use Rattle.kfs_model.specs.Step.{content}
-use Rattle.kfs_plain.specs.Tables.{tree_of, limits_of, chunks_for}
+use Rattle.kfs_plain.specs.Tables.{tree_of, limits_of}
 use Rattle.kfs_plain.proofs.Fitting.{counted-le, top_chunks, fits-above, fits-within}
 use Rattle.kfs_plain.proofs.room.fits.Goals as goal
 

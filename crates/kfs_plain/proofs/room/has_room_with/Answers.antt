@@ -1,9 +1,9 @@
 use Rattle.std.proofs.Common.{◌≡◌, ◌≤◌, ◌+◌, ◌-◌, ◌∙◌, sym, ap, subst, List, ℕ, length, leb}
 use Rattle.std.specs.Prelude.{◌&&◌}
 use Rattle.kfs_model.specs.declared.Node.TheVariants.{File}
-use Rattle.kfs_model.specs.Tree.{has_room, with_node}
+use Rattle.kfs_model.specs.Tree.{has_room, with_node, chunks_for}
 use Rattle.kfs_model.specs.Step.{content}
-use Rattle.kfs_plain.specs.Tables.{tree_of, limits_of, chunks_for}
+use Rattle.kfs_plain.specs.Tables.{tree_of, limits_of}
 use Rattle.kfs_plain.proofs.Fitting.{counted-le, has_room-counted, leb_true, leb_false, and_true, and_false}
 use Rattle.kfs_plain.proofs.room.has_room_with.Goals as goal
 

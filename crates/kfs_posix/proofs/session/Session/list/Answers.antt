@@ -1,4 +1,4 @@
-use Rattle.std.proofs.Common.{ap, arith, refl}
+use Rattle.std.proofs.Common.{arith, refl}
 use Rattle.kfs_path.specs.declared.call.Call.TheVariants as calls
 use Rattle.kfs_posix.proofs.Calls.{none_of}
 use Rattle.kfs_posix.proofs.Answered.{age_in, keys_in, list_answered, list_refused, off_answers, answers_of}

@@ -1,7 +1,7 @@
-use Rattle.std.proofs.Common.{ap, arith, refl}
+use Rattle.std.proofs.Common.{arith, refl}
 use Rattle.kfs_path.specs.declared.call.Call.TheVariants as calls
 use Rattle.kfs_posix.proofs.Calls.{none_of}
-use Rattle.kfs_posix.proofs.Answered.{age_in, stat_answered, stat_refused, told_dir, told_file, off_answers, answers_of, dir_plain, file_plain}
+use Rattle.kfs_posix.proofs.Answered.{age_in, stat_answered, stat_refused, off_answers, answers_of}
 use Rattle.kfs_posix.proofs.session.Session.stat.Goals as goal
 use Rattle.kfs_posix.proofs.Shown.{showing_after, showing_in, awake_in}
 use Rattle.kfs_posix.specs.Volume.{volume_of}
@@ -23,13 +23,7 @@ pub returns-in-Err : goal.returns-in-Err
 returns-in-Err g c = answers_of c.args.self.now c.self.inside.kfs c.look_up.new.kfs c.self.inside.files.opens _ c.self.inside.down _ _ _ (0) (omega arith) c.self.view_is c.in-Err.ensures.age (stat_refused c.args.self.now c.self.inside.kfs c.look_up.new.kfs c.self.inside.files.opens c.self.inside.down c.self.view_is (none_of c.self.inside.down c.if-is_some.ensures) (awake_in (volume_of c.self.inside.kfs c.self.inside.files.opens c.self.inside.down) c.self.invariant (none_of c.self.inside.down c.if-is_some.ensures)) c.in-Err.ensures.rest c.args.path.now c.refuse.result c.in-Err.fault c.refuse.new.down c.in-Err.ensures.gives c.in-Err.ensures.leaves c.refuse.ensures.reply c.refuse.ensures.down).happens
 
 pub invariant_of-self : goal.invariant_of-self
-invariant_of-self g c = showing_after c.args.self.now c.self.inside.kfs c.self.inside.files.opens c.self.inside.down c.self.view_is (none_of c.self.inside.down c.if-is_some.ensures) c.self.invariant _ _ _ (stat_answered c.args.self.now c.self.inside.kfs c.look_up.new.kfs c.self.inside.files.opens c.self.inside.down c.self.view_is (none_of c.self.inside.down c.if-is_some.ensures) (awake_in (volume_of c.self.inside.kfs c.self.inside.files.opens c.self.inside.down) c.self.invariant (none_of c.self.inside.down c.if-is_some.ensures)) c.in-Ok.ensures.rest c.args.path.now c.in-Ok.node c.in-Ok.it.kind c.in-Ok.it.length _ (dir_plain c.in-Ok.node) c.in-Ok.ensures.gives (told_dir c.in-Ok.node c.in-Ok.it.kind c.in-Ok.it.length c.if-it-eq1.true) c.in-Ok.ensures.leaves).goes
+invariant_of-self g c = showing_after c.args.self.now c.self.inside.kfs c.self.inside.files.opens c.self.inside.down c.self.view_is (none_of c.self.inside.down c.if-is_some.ensures) c.self.invariant _ _ _ (stat_answered c.args.self.now c.self.inside.kfs c.look_up.new.kfs c.self.inside.files.opens c.self.inside.down c.self.view_is (none_of c.self.inside.down c.if-is_some.ensures) (awake_in (volume_of c.self.inside.kfs c.self.inside.files.opens c.self.inside.down) c.self.invariant (none_of c.self.inside.down c.if-is_some.ensures)) c.in-Ok.ensures.rest c.args.path.now c.in-Ok.node c.in-Ok.it.kind c.in-Ok.it.length _ c.in-Ok.ensures.gives c.told.ensures c.in-Ok.ensures.leaves).goes
 
-pub returns-then-it-eq1 : goal.returns-then-it-eq1
-returns-then-it-eq1 g c = answers_of c.args.self.now c.self.inside.kfs c.look_up.new.kfs c.self.inside.files.opens _ c.self.inside.down _ _ _ (0) (omega arith) c.self.view_is c.in-Ok.ensures.age (stat_answered c.args.self.now c.self.inside.kfs c.look_up.new.kfs c.self.inside.files.opens c.self.inside.down c.self.view_is (none_of c.self.inside.down c.if-is_some.ensures) (awake_in (volume_of c.self.inside.kfs c.self.inside.files.opens c.self.inside.down) c.self.invariant (none_of c.self.inside.down c.if-is_some.ensures)) c.in-Ok.ensures.rest c.args.path.now c.in-Ok.node c.in-Ok.it.kind c.in-Ok.it.length _ (dir_plain c.in-Ok.node) c.in-Ok.ensures.gives (told_dir c.in-Ok.node c.in-Ok.it.kind c.in-Ok.it.length c.if-it-eq1.true) c.in-Ok.ensures.leaves)
-
-pub invariant_of-self-in-Ok : goal.invariant_of-self-in-Ok
-invariant_of-self-in-Ok g c = showing_after c.args.self.now c.self.inside.kfs c.self.inside.files.opens c.self.inside.down c.self.view_is (none_of c.self.inside.down c.if-is_some.ensures) c.self.invariant _ _ _ (stat_answered c.args.self.now c.self.inside.kfs c.look_up.new.kfs c.self.inside.files.opens c.self.inside.down c.self.view_is (none_of c.self.inside.down c.if-is_some.ensures) (awake_in (volume_of c.self.inside.kfs c.self.inside.files.opens c.self.inside.down) c.self.invariant (none_of c.self.inside.down c.if-is_some.ensures)) c.in-Ok.ensures.rest c.args.path.now c.in-Ok.node c.in-Ok.it.kind c.in-Ok.it.length _ (file_plain c.in-Ok.node c.in-Ok.it.length) c.in-Ok.ensures.gives (told_file c.in-Ok.node c.in-Ok.it.kind c.in-Ok.it.length c.if-it-eq1.false) c.in-Ok.ensures.leaves).goes
-
-pub returns-else-it-eq1 : goal.returns-else-it-eq1
-returns-else-it-eq1 g c = answers_of c.args.self.now c.self.inside.kfs c.look_up.new.kfs c.self.inside.files.opens _ c.self.inside.down _ _ _ (0) (omega arith) c.self.view_is c.in-Ok.ensures.age (stat_answered c.args.self.now c.self.inside.kfs c.look_up.new.kfs c.self.inside.files.opens c.self.inside.down c.self.view_is (none_of c.self.inside.down c.if-is_some.ensures) (awake_in (volume_of c.self.inside.kfs c.self.inside.files.opens c.self.inside.down) c.self.invariant (none_of c.self.inside.down c.if-is_some.ensures)) c.in-Ok.ensures.rest c.args.path.now c.in-Ok.node c.in-Ok.it.kind c.in-Ok.it.length _ (file_plain c.in-Ok.node c.in-Ok.it.length) c.in-Ok.ensures.gives (told_file c.in-Ok.node c.in-Ok.it.kind c.in-Ok.it.length c.if-it-eq1.false) c.in-Ok.ensures.leaves)
+pub returns-in-Ok : goal.returns-in-Ok
+returns-in-Ok g c = answers_of c.args.self.now c.self.inside.kfs c.look_up.new.kfs c.self.inside.files.opens _ c.self.inside.down _ _ _ (0) (omega arith) c.self.view_is c.in-Ok.ensures.age (stat_answered c.args.self.now c.self.inside.kfs c.look_up.new.kfs c.self.inside.files.opens c.self.inside.down c.self.view_is (none_of c.self.inside.down c.if-is_some.ensures) (awake_in (volume_of c.self.inside.kfs c.self.inside.files.opens c.self.inside.down) c.self.invariant (none_of c.self.inside.down c.if-is_some.ensures)) c.in-Ok.ensures.rest c.args.path.now c.in-Ok.node c.in-Ok.it.kind c.in-Ok.it.length _ c.in-Ok.ensures.gives c.told.ensures c.in-Ok.ensures.leaves)

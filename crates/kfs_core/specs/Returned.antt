@@ -6,13 +6,13 @@ use Rattle.kfs_tx.specs.Tx.{Tx, GetFault, CommitFault}
 use Rattle.kfs_core.specs.declared.fault.CoreFault.{CoreFault}
 use Rattle.kfs_core.specs.declared.fault.CoreFault.TheVariants.{No, Device}
 
-abbrev pub Fails : {Y : Type 0} → CoreFault → Result Y Errno → Type 0
-Fails (Device fault) given = Unit {0}
-Fails (No e) given = given ≡ Err e
+abbrev pub RefusesAs : {Y : Type 0} → CoreFault → Result Y Errno → Type 0
+RefusesAs (Device fault) given = Unit {0}
+RefusesAs (No e) given = given ≡ Err e
 
-abbrev pub Gives : {X Y : Type 0} → (X → Y) → Result X CoreFault → Result Y Errno → Type 0
-Gives view (Ok x) given = given ≡ Ok (view x)
-Gives view (Err e) given = Fails e given
+abbrev pub JudgesAs : {X Y : Type 0} → (X → Y) → Result X CoreFault → Result Y Errno → Type 0
+JudgesAs view (Ok x) given = given ≡ Ok (view x)
+JudgesAs view (Err e) given = RefusesAs e given
 
 -- a call that only reads: it leaves the tx, or the device or memory failed
 abbrev pub LeavesAtFault : Tx → CoreFault → Tx → Type 0

@@ -7,14 +7,14 @@ use Rattle.kfs_plain.specs.declared.fault.Fault.{Fault}
 use Rattle.kfs_plain.specs.declared.fault.Fault.TheVariants.{Memory, No}
 
 -- an error is the definition's; want of memory says nothing
-abbrev pub Fails : {Y : Type 0} → Fault → Result Y Errno → Type 0
-Fails Memory given = Unit {0}
-Fails (No e) given = given ≡ Err e
+abbrev pub ErrsAs : {Y : Type 0} → Fault → Result Y Errno → Type 0
+ErrsAs Memory given = Unit {0}
+ErrsAs (No e) given = given ≡ Err e
 
 -- the value, seen by view, is the definition's
-abbrev pub Gives : {X Y : Type 0} → (X → Y) → Result X Fault → Result Y Errno → Type 0
-Gives view (Ok x) given = given ≡ Ok (view x)
-Gives view (Err e) given = Fails e given
+abbrev pub AnswersAs : {X Y : Type 0} → (X → Y) → Result X Fault → Result Y Errno → Type 0
+AnswersAs view (Ok x) given = given ≡ Ok (view x)
+AnswersAs view (Err e) given = ErrsAs e given
 
 -- A call that answered so, and left new, did what the definition gives. An error or want of memory
 -- changes nothing.
