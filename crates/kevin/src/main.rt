@@ -5,15 +5,15 @@
 //!
 //! There is no state. Main law: the clauses of `kevin`. `ends` says which status and which text each case gives and
 //! what stands on the shelf then (`Ends` in `specs/Ending.antt` of `kfs_runner`), `alone` that words which ask for no
-//! script leave shelf and source as they were, and `complete` that a script that formats first is answered whole where
-//! nothing outside failed, or is too long in its answers, or memory is wanting (`EndsComplete` in `specs/Complete.antt`
-//! there).
+//! script leave shelf and source as they were, and `complete` that a script that formats first, or finds an image file
+//! on the shelf, is answered whole where nothing outside failed, or is too long in its answers, or memory is wanting
+//! (`EndsComplete` in `specs/Complete.antt` there).
 //!
 //! Begin with `kevin`, then `src/running.rt` of `kfs_runner`. No crate stands on this one.
 #![tactic(auto)]
 
 ghost use Rattle.kfs_runner.specs.Complete.{EndsComplete};
-ghost use Rattle.kfs_runner.specs.Ending.{Ends, LeavesAlone, side, sides};
+ghost use Rattle.kfs_runner.specs.Ending.{Ends, LeavesAlone, sides};
 
 use kfs_runner::{
     FileShelf, Incoming, NO_MEMORY, Outgoing, Shelf, Sink, Source, run_words, write_ending,
@@ -35,16 +35,16 @@ pub fn kevin<H: Shelf, S: Source, O: Sink>(
     out: &mut O,
 ) -> u8
     ensures ends { Ends words.now.items
-        (sides (side (H.held shelf.old) (H.faults shelf.old)) (side (S.left script.old) (S.faults script.old)))
-        (sides (side (H.held shelf.new) (H.faults shelf.new)) (side (S.left script.new) (S.faults script.new)))
-        (side (O.got out.old) (O.faults out.old)) (side (O.got out.new) (O.faults out.new)) result }
+        (sides (H.side shelf.old) (S.side script.old))
+        (sides (H.side shelf.new) (S.side script.new))
+        (O.side out.old) (O.side out.new) result }
     ensures alone { LeavesAlone words.now.items
-        (sides (side (H.held shelf.old) (H.faults shelf.old)) (side (S.left script.old) (S.faults script.old)))
-        (sides (side (H.held shelf.new) (H.faults shelf.new)) (side (S.left script.new) (S.faults script.new))) }
+        (sides (H.side shelf.old) (S.side script.old))
+        (sides (H.side shelf.new) (S.side script.new)) }
     ensures complete { EndsComplete words.now.items
-        (sides (side (H.held shelf.old) (H.faults shelf.old)) (side (S.left script.old) (S.faults script.old)))
-        (sides (side (H.held shelf.new) (H.faults shelf.new)) (side (S.left script.new) (S.faults script.new)))
-        (side (O.got out.old) (O.faults out.old)) (side (O.got out.new) (O.faults out.new)) result }
+        (sides (H.side shelf.old) (S.side script.old))
+        (sides (H.side shelf.new) (S.side script.new))
+        (O.side out.old) (O.side out.new) result }
 {
     let ending = run_words(alloc, words, shelf, script);
     write_ending(out, &ending)

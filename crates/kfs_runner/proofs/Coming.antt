@@ -4,7 +4,7 @@ use Rattle.std.proofs.lemmas.Bool.Decides.{nat_tests}
 use Rattle.kfs_script.specs.Script.{script_of}
 use Rattle.kfs_runner.specs.declared.ending.Ending.{Ending}
 use Rattle.kfs_runner.specs.declared.ending.Ending.TheVariants.{Quiet, Prints}
-use Rattle.kfs_runner.specs.Outside.{GivesAll, IsReadOut}
+use Rattle.kfs_runner.specs.Outside.{Side, GivesAll, IsReadOut}
 use Rattle.kfs_runner.specs.Reading.{script_limit, GivesTooMuch}
 use Rattle.kfs_model.specs.declared.Line.{Line}
 use Rattle.kfs_model.specs.declared.Line.TheVariants as lines
@@ -14,7 +14,7 @@ use Rattle.kfs_runner.specs.Serving.{formats, formats_first, IsServed, IsServedO
 use Rattle.nand_mem.specs.ImageFile.{image_bytes, Refuses}
 use Rattle.nand_mem.specs.declared.fault.ImageFault.{ImageFault}
 use Rattle.nand_mem.specs.declared.fault.ImageFault.TheVariants.{Memory as NoMemory}
-use Rattle.kfs_runner.specs.Ending.{Side, Sides, sides, unread, Due, Refused, Answered, OnImage, Made, bad_image, IsBadImage, IsTaken, IsRunOn, IsTooMuchOn, bad_words, too_long, too_much, due, due_by, HoldsImage, IsDue, TaskComesTo, IsLoadDue, IsScriptDue}
+use Rattle.kfs_runner.specs.Ending.{Sides, sides, unread, Due, Refused, Answered, OnImage, Made, bad_image, IsBadImage, IsTaken, IsRunOn, IsTooMuchOn, bad_words, too_long, too_much, due, due_by, HoldsImage, IsDue, TaskComesTo, IsLoadDue, IsScriptDue}
 use Rattle.kfs_runner.specs.declared.words.Task.{Task}
 use Rattle.kfs_runner.specs.declared.words.Task.TheVariants.{Nothing, Run, Make}
 
@@ -146,7 +146,7 @@ too_much_is_due blocks ls shelf all ending first much (inr quiet) =
 
 -- ---- a script on the image of the shelf
 
-on_image : (ls : List Line) → formats_first ls ≡ false → due_by (Ok ls) ≡ OnImage ls
+pub on_image : (ls : List Line) → formats_first ls ≡ false → due_by (Ok ls) ≡ OnImage ls
 on_image [] h = refl
 on_image (lines.Format wanted ∷ more) h = cc
 on_image (lines.Mount ∷ more) h = refl

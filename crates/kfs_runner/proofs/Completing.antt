@@ -19,13 +19,15 @@ use Rattle.kfs_runner.specs.declared.ending.Ending.TheVariants.{Quiet, Prints}
 use Rattle.kfs_runner.specs.declared.words.Task.TheVariants.{Run}
 use Rattle.kfs_runner.specs.Numbers.{limits_of}
 use Rattle.kfs_runner.specs.Words.{task_of}
-use Rattle.kfs_runner.specs.Outside.{Takes}
-use Rattle.kfs_runner.specs.Serving.{AreAnswers}
-use Rattle.kfs_runner.specs.Ending.{Side, Sides, Due, Answered, due, due_by, IsDue, TaskComesTo, IsWritten}
+use Rattle.kfs_runner.specs.Outside.{Side, Takes}
+use Rattle.nand_mem.specs.ImageFile.{Refuses}
+use Rattle.kfs_runner.specs.Serving.{AreAnswers, rests_at}
+use Rattle.kfs_runner.specs.Ending.{Sides, Due, Answered, OnImage, due, due_by, IsDue, IsBadImage, TaskComesTo, IsWritten}
 use Rattle.kfs_runner.specs.MountPoints.{MountState, Mounted, Bare, ShowsBare, IsLow, shows_point, point_machine}
 use Rattle.kfs_runner.proofs.MountLaws.{past_of, newest}
-use Rattle.kfs_runner.specs.Complete.{NothingFailed, ArePlainAnswers, IsAnsweredWhole, IsAnsweredTooLong, EachEndIsComplete, LinesFailUnplannedByMemoryAlone, MountsFailUnplannedByMemoryAlone}
-use Rattle.kfs_runner.proofs.Coming.{due_script}
+use Rattle.kfs_runner.specs.Complete.{NothingFailed, ArePlainAnswers, IsAnsweredWhole, IsAnsweredTooLong, IsAnsweredOn, IsTooLongOn, HoldsFile, EachEndIsComplete, LinesFailUnplannedByMemoryAlone, MountsFailUnplannedByMemoryAlone}
+use Rattle.kfs_runner.proofs.Coming.{due_script, on_image}
+use Rattle.kfs_runner.proofs.ImageFiles.{image_taken}
 
 -- ---- a script
 
@@ -45,20 +47,49 @@ answered blocks ls old new sink sink_new status text (out, inl run) printed =
     inl (record { text = text; run = run; printed = printed; plain = plain_answers (limits_of blocks) ls run.given run.answered.end run.answered.are })
 answered blocks ls old new sink sink_new status text (out, inr much) printed = inr (inl (text, much, printed))
 
-left : (words : List (List ℕ)) (old new : Sides) (sink sink_new : Side) (status : ℕ) (ending : Ending) (bytes : List ℕ) (blocks : ℕ) (ls : List Line) → TaskComesTo (task_of words) old new ending → IsWritten ending sink sink_new status → task_of words ≡ Run → old.source.bytes ≡ Some bytes → due Run bytes ≡ Answered blocks ls → NothingFailed old new sink sink_new → Left blocks ls old new sink sink_new status
-left words old new sink sink_new status (Quiet quiet) bytes blocks ls (inl unread) written runs told script well = absurd (well.source unread.2)
-left words old new sink sink_new status (Quiet quiet) bytes blocks ls (inr (inl wants)) written runs told script well = inr (inr (written.0 ∙ wants.0))
-left words old new sink sink_new status (Quiet quiet) bytes blocks ls (inr (inr unput)) written runs told script well = absurd (well.shelf unput.3)
-left words old new sink sink_new status (Prints shown text) bytes blocks ls comes (inr cut) runs told script well = absurd (well.sink cut.2)
-left words old new sink sink_new status (Prints shown text) bytes blocks ls (given, is, is_due, steady) (inl printed) runs told script well =
+abbrev LeftOn : List Line → Sides → Sides → Side → Side → ℕ → Type 0
+LeftOn ls old new sink sink_new status = IsAnsweredOn ls old new sink sink_new status ⊎ (IsTooLongOn ls old new sink sink_new status ⊎ (status ≡ 7))
+
+-- the file of an image isn't refused
+no_bad_image : (ls : List Line) (old new : Sides) (status : ℕ) (text : List ℕ) → HoldsFile old.shelf → IsBadImage old.shelf new.shelf status text → ⊥
+no_bad_image ls old new status text file bad =
+    let R : Option (List ℕ) → Type 0 = λ held. IfSome held (λ bytes. Refuses bytes bad.fault) in
+    image_taken file.image file.blocks bad.fault file.whole file.range (subst R file.file bad.refuses) bad.found
+
+answered_on : (ls : List Line) (old new : Sides) (sink sink_new : Side) (status : ℕ) (text : List ℕ) → HoldsFile old.shelf → IsDue (OnImage ls) old new status text → Takes sink.bytes text sink_new.bytes → LeftOn ls old new sink sink_new status
+answered_on ls old new sink sink_new status text file (out, inl bad) printed = absurd (no_bad_image ls old new status text file bad)
+answered_on ls old new sink sink_new status text file (out, inr (inl run)) printed = inl (record {
+  text = text;
+  run = run;
+  printed = printed;
+  plain = λ t k honest plain.
+      let it = run.served.honest t k honest in
+      (it.0.now, plainly (limits_of run.old.blocks) (rests_at t k) it.0 ls run.served.given (record { cut = refl; fault = refl }) plain it.1);
+})
+answered_on ls old new sink sink_new status text file (out, inr (inr much)) printed = inr (inl (text, much, printed))
+
+-- where nothing failed, what is due was printed, or memory was wanting
+left : (words : List (List ℕ)) (old new : Sides) (sink sink_new : Side) (status : ℕ) (ending : Ending) (bytes : List ℕ) (expected : Due) (Out : ℕ → Type 0)
+    → ((shown : ℕ) (text : List ℕ) → IsDue expected old new shown text → Takes sink.bytes text sink_new.bytes → Out shown) → (status ≡ 7 → Out status)
+    → TaskComesTo (task_of words) old new ending → IsWritten ending sink sink_new status → task_of words ≡ Run → old.source.bytes ≡ Some bytes → due Run bytes ≡ expected → NothingFailed old new sink sink_new → Out status
+left words old new sink sink_new status (Quiet quiet) bytes expected Out shows wants (inl unread) written runs told script well = absurd (well.source unread.2)
+left words old new sink sink_new status (Quiet quiet) bytes expected Out shows wants (inr (inl wanting)) written runs told script well = wants (written.0 ∙ wanting.0)
+left words old new sink sink_new status (Quiet quiet) bytes expected Out shows wants (inr (inr unput)) written runs told script well = absurd (well.shelf unput.3)
+left words old new sink sink_new status (Prints shown text) bytes expected Out shows wants comes (inr cut) runs told script well = absurd (well.sink cut.2)
+left words old new sink sink_new status (Prints shown text) bytes expected Out shows wants (given, is, is_due, steady) (inl printed) runs told script well =
     let D : Due → Type 0 = λ d. IsDue d old new shown text in
-    let S : ℕ → Type 0 = λ n. Left blocks ls old new sink sink_new n in
-    let same : due (task_of words) given ≡ Answered blocks ls = ap (λ task. due task given) runs ∙ ap (due Run) (the_bytes old.source.bytes given bytes told is) ∙ script in
-    subst S (sym printed.0) (answered blocks ls old new sink sink_new shown text (subst D same is_due) printed.1)
+    let same : due (task_of words) given ≡ expected = ap (λ task. due task given) runs ∙ ap (due Run) (the_bytes old.source.bytes given bytes told is) ∙ script in
+    subst Out (sym printed.0) (shows shown text (subst D same is_due) printed.1)
 
 pub complete : EachEndIsComplete
-complete words old new sink sink_new status (ending, comes, written) bytes blocks ls runs told short script well =
-    left words old new sink sink_new status ending bytes blocks ls comes written runs told (due_script bytes short ∙ ap due_by script) well
+complete words old new sink sink_new status (ending, comes, written) = record {
+  formatted = λ bytes blocks ls runs told short script well.
+      left words old new sink sink_new status ending bytes (Answered blocks ls) (Left blocks ls old new sink sink_new)
+      (λ shown text is_due printed. answered blocks ls old new sink sink_new shown text is_due printed) (λ wants. inr (inr wants)) comes written runs told (due_script bytes short ∙ ap due_by script) well;
+  taken = λ bytes ls runs told short script image file well.
+      left words old new sink sink_new status ending bytes (OnImage ls) (LeftOn ls old new sink sink_new)
+      (λ shown text is_due printed. answered_on ls old new sink sink_new shown text file is_due printed) (λ wants. inr (inr wants)) comes written runs told (due_script bytes short ∙ ap due_by script ∙ on_image ls image) well;
+}
 
 -- ---- a line
 

@@ -2,14 +2,17 @@ pub mod Streams
 pub mod Coming
 pub mod LinesMore
 pub mod Asking
+pub mod Planning
 pub mod Lives
 pub mod LineSize
 pub mod LineCount
 pub mod PointLaws
 pub mod Undamaged
+pub mod Unplanned
 pub mod MountLaws
 pub mod LoadRuns
 pub mod ServedLines
 pub mod ServedImages
 pub mod Waking
+pub mod ImageFiles
 pub mod Completing

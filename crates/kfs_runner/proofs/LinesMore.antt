@@ -3,7 +3,7 @@ use Rattle.std.proofs.lemmas.List.{take_more}
 use Rattle.std.proofs.lemmas.Grind.{flat_map-append}
 use Rattle.std.proofs.lemmas.List.Sums.{sum_by-append}
 use Rattle.std.specs.List.{count_by}
-use Rattle.std.proofs.Common.{◌≡◌, ◌<◌, ◌+◌, ◌++◌, ◌∷◌, ◌≤◌, ◌∙◌, ℕ, zero, suc, List, [], length, take, get_or, cond, refl, sym, ap, subst, Bool, true, false, arith, append_assoc, append-nil}
+use Rattle.std.proofs.Common.{◌≡◌, ◌⊎◌, inl, inr, ◌<◌, ◌+◌, ◌++◌, ◌∷◌, ◌≤◌, ◌∙◌, ℕ, zero, suc, List, [], length, take, get_or, cond, refl, sym, ap, subst, Bool, true, false, arith, append_assoc, append-nil}
 use Rattle.kfs_model.specs.declared.Line.{Line}
 use Rattle.kfs_model.specs.declared.Answer.{Answer}
 use Rattle.kfs_model.specs.Tree.{Limits}
@@ -33,6 +33,11 @@ refused_at damage ls i line given answer below is all one =
     let P : List Line → Type 0 = λ done. AnswerDamage damage done (given ++ answer ∷ []) in
     let next : take i ls ++ line ∷ [] ≡ take (i + 1) ls = ap (λ l. take i ls ++ l ∷ []) is ∙ sym (take_more ls i line below) in
     subst P next (refused_more damage (take i ls) given line answer all one)
+
+-- what follows in both cases
+pub in_both : {A B C : Type 0} → A ⊎ B → (A → C) → (B → C) → C
+in_both (inl a) left right = left a
+in_both (inr b) left right = right b
 
 pub take_few : (i : ℕ) (ls : List Line) → length (take i ls) ≤ length ls
 take_few zero ls = omega arith

@@ -32,13 +32,21 @@ use Rattle.kfs_runner.specs.Strikes.{is_cut, plans_cut, is_cut_planned}
 
 -- ---- a call that is done doesn't answer that the session is down by a cut
 
-abbrev IsUp : Reply → Type 0
-IsUp reply = is_cut (answers.Reply reply) ≡ false
+abbrev pub IsUp : Reply → Type 0
+IsUp (replies.Down cause) = ⊥
+IsUp replies.Off = ⊥
+IsUp reply = Unit {0}
+
+-- it tells no cut
+uncut : (reply : Reply) → IsUp reply → is_cut (answers.Reply reply) ≡ false
+uncut (replies.Down cause) up = absurd up
+uncut replies.Off up = absurd up
+uncut reply up = refl
 
 told_up : (o : Option (ℕ × Node)) → Outcomes.Each IsUp (Step.told o)
 told_up None = tt
-told_up (Some (n, Dir)) = refl
-told_up (Some (n, File bytes)) = refl
+told_up (Some (n, Dir)) = tt
+told_up (Some (n, File bytes)) = tt
 
 told_is : (o : Option (ℕ × Node)) (reply : Reply) → Step.told o ≡ Ok reply → IsUp reply
 told_is o reply e = Outcomes.of_each IsUp (Step.told o) reply (told_up o) e
@@ -54,34 +62,34 @@ module _ (k : Limits) (d : ℕ) (w : Step.World) where
   Tells after = IsUp after.reply
 
   effect_up : (call : Call) → Outcomes.Each Tells (Step.effect k d w call)
-  effect_up (calls.Open path flags) = Outcomes.open_each Tells w k d path flags (record { new = λ place fd free lowest. refl; dir = λ place fd n e may lowest. refl; file = λ place fd n bytes e lowest. refl; cut = λ place fd n bytes e lowest. refl })
-  effect_up (calls.Close fd) = Outcomes.close_each Tells w fd (λ it is. refl)
-  effect_up (calls.Dup fd) = Outcomes.dup_each Tells w fd (λ it new is l. refl)
-  effect_up (calls.Read fd count) = Outcomes.read_each Tells w fd count (λ bytes it p is. refl)
-  effect_up (calls.Write fd bytes) = Outcomes.write_each Tells w k fd bytes refl (λ it p is may some. refl)
-  effect_up (calls.Pread fd count offset) = Outcomes.pread_each Tells w fd count offset (λ bytes. refl)
-  effect_up (calls.Pwrite fd bytes offset) = Outcomes.pwrite_each Tells w k fd bytes offset refl (λ it p is may some. refl)
-  effect_up (calls.Lseek fd whence offset) = Outcomes.lseek_each Tells w fd whence offset (λ n it p is. refl)
-  effect_up (calls.Truncate path size) = Outcomes.truncate_each Tells w k path size (λ place e walked there file may. refl)
-  effect_up (calls.Ftruncate fd size) = Outcomes.ftruncate_each Tells w k fd size (λ it is may have. refl)
-  effect_up (calls.Mkdir path) = Outcomes.mkdir_each Tells w k path (λ place free. refl)
-  effect_up (calls.Rmdir path) = Outcomes.rmdir_each Tells w path (λ place empty. refl)
-  effect_up (calls.Unlink path) = Outcomes.unlink_each Tells w path (λ place there file. refl)
-  effect_up (calls.Rename old new) = Outcomes.rename_each Tells w old new refl (λ p q move. refl)
+  effect_up (calls.Open path flags) = Outcomes.open_each Tells w k d path flags (record { new = λ place fd free lowest. tt; dir = λ place fd n e may lowest. tt; file = λ place fd n bytes e lowest. tt; cut = λ place fd n bytes e lowest. tt })
+  effect_up (calls.Close fd) = Outcomes.close_each Tells w fd (λ it is. tt)
+  effect_up (calls.Dup fd) = Outcomes.dup_each Tells w fd (λ it new is l. tt)
+  effect_up (calls.Read fd count) = Outcomes.read_each Tells w fd count (λ bytes it p is. tt)
+  effect_up (calls.Write fd bytes) = Outcomes.write_each Tells w k fd bytes tt (λ it p is may some. tt)
+  effect_up (calls.Pread fd count offset) = Outcomes.pread_each Tells w fd count offset (λ bytes. tt)
+  effect_up (calls.Pwrite fd bytes offset) = Outcomes.pwrite_each Tells w k fd bytes offset tt (λ it p is may some. tt)
+  effect_up (calls.Lseek fd whence offset) = Outcomes.lseek_each Tells w fd whence offset (λ n it p is. tt)
+  effect_up (calls.Truncate path size) = Outcomes.truncate_each Tells w k path size (λ place e walked there file may. tt)
+  effect_up (calls.Ftruncate fd size) = Outcomes.ftruncate_each Tells w k fd size (λ it is may have. tt)
+  effect_up (calls.Mkdir path) = Outcomes.mkdir_each Tells w k path (λ place free. tt)
+  effect_up (calls.Rmdir path) = Outcomes.rmdir_each Tells w path (λ place empty. tt)
+  effect_up (calls.Unlink path) = Outcomes.unlink_each Tells w path (λ place there file. tt)
+  effect_up (calls.Rename old new) = Outcomes.rename_each Tells w old new tt (λ p q move. tt)
   effect_up (calls.Stat path) = Outcomes.stat_each Tells w path (λ reply e. Outcomes.of_each IsUp (Step.stat_of w.tree path) reply (stat_up w.tree path) e)
   effect_up (calls.Fstat fd) = Outcomes.fstat_each Tells w fd (λ o reply e. told_is o reply e)
   effect_up (calls.List path) = Outcomes.list_each Tells w path (λ reply e. Outcomes.of_each IsUp (Step.list_of w.tree path) reply (list_up w.tree path) e)
-  effect_up (calls.Fsync fd) = Outcomes.fsync_each Tells w fd refl
-  effect_up calls.Sync = refl
-  effect_up calls.Room = refl
-  effect_up calls.Tree = refl
-  effect_up (calls.Work operations) = refl
+  effect_up (calls.Fsync fd) = Outcomes.fsync_each Tells w fd tt
+  effect_up calls.Sync = tt
+  effect_up calls.Room = tt
+  effect_up calls.Tree = tt
+  effect_up (calls.Work operations) = tt
 
 settled_up : (w : Step.World) (r : Result Step.After Errno) → Outcomes.Each (λ after. IsUp after.reply) r → IsUp (Step.settled w r).reply
 settled_up w (Ok after) up = up
-settled_up w (Err e) up = refl
+settled_up w (Err e) up = tt
 
-step_up : (k : Limits) (d : ℕ) (w : Step.World) (call : Call) → IsUp (step k d w call).reply
+pub step_up : (k : Limits) (d : ℕ) (w : Step.World) (call : Call) → IsUp (step k d w call).reply
 step_up k d w call = settled_up w (Step.effect k d w call) (effect_up k d w call)
 
 -- ---- whether a cut is planned
@@ -95,7 +103,7 @@ fell_armed s causes.Cut to = sym (and-false s.cut_armed)
 fell_armed s causes.Eio to = sym (and-true s.cut_armed)
 fell_armed s causes.NoMem to = sym (and-true s.cut_armed)
 
-abbrev Arms : State → Line → Answer → State → Type 0
+abbrev pub Arms : State → Line → Answer → State → Type 0
 Arms s line answer t = t.cut_armed ≡ (plans_cut line || (s.cut_armed && not (is_cut answer)))
 
 falls_arms : (s t : State) (line : Line) (reply : Reply) (cause : Cause) (to : Now) → plans_cut line ≡ false → reply ≡ replies.Down cause → t ≡ disarmed s cause to → Arms s line (answers.Reply reply) t
@@ -104,15 +112,15 @@ falls_arms s t line reply cause to none is same =
     subst P (sym is) (ap (λ (x : State). x.cut_armed) same ∙ fell_armed s cause to) ∙ ap (λ b. b || (s.cut_armed && not (is_cut (answers.Reply reply)))) (sym none)
 
 -- a line that is answered arms a cut exactly where it plans one, or one was armed and did not come
-event_arms : (k : Limits) (s : State) (now : Now) (line : Line) (answer : Answer) (t : State) → EventAt k s now line answer t → Arms s line answer t
+pub event_arms : (k : Limits) (s : State) (now : Now) (line : Line) (answer : Answer) (t : State) → EventAt k s now line answer t → Arms s line answer t
 event_arms k s (Up live) (lines.Call call) (answers.Reply reply) t (d, free, inl done) =
     let up : IsUp reply = subst IsUp (sym done.0) (step_up k d live.world call) in
-    ap (λ (x : State). x.cut_armed) done.1 ∙ stays_armed s.cut_armed (answers.Reply reply) up
+    ap (λ (x : State). x.cut_armed) done.1 ∙ stays_armed s.cut_armed (answers.Reply reply) (uncut reply up)
 event_arms k s (Up live) (lines.Call call) (answers.Reply reply) t (d, free, inr (cause, is, armed, same)) =
     falls_arms s t (lines.Call call) reply cause (fallen live call (step k d live.world call)) refl is same
 event_arms k s (Down past may) (lines.Call call) (answers.Reply reply) t (is, same) =
-    let up : IsUp reply = subst IsUp (sym is) refl in
-    ap (λ (x : State). x.cut_armed) same ∙ stays_armed s.cut_armed (answers.Reply reply) up
+    let none : is_cut (answers.Reply reply) ≡ false = ap (λ r. is_cut (answers.Reply r)) is in
+    ap (λ (x : State). x.cut_armed) same ∙ stays_armed s.cut_armed (answers.Reply reply) none
 event_arms k s (Up live) lines.Mount (answers.Mounted n) t (is, same) = ap (λ (x : State). x.cut_armed) same ∙ sym (and-true s.cut_armed)
 event_arms k s (Down past may) lines.Mount (answers.Mounted n) t (is, same) = ap (λ (x : State). x.cut_armed) same ∙ sym (and-true s.cut_armed)
 event_arms k s (Up live) lines.Mount (answers.Reply reply) t (cause, is, armed, same) = falls_arms s t lines.Mount reply cause (Down live.past (live.mark ∷ [])) refl is same

@@ -29,10 +29,12 @@ use Rattle.kfs_runner.specs.declared.load.Tally.{Tally}
 use Rattle.kfs_script.specs.Script.{IsLine, is_format}
 use Rattle.kfs_runner.specs.MountPoints.{MountState, Mounted, Bare, IsDown, shows_point, point_limits}
 use Rattle.kfs_runner.specs.Young.{IsYoung}
-use Rattle.kfs_runner.proofs.Lives.{newborn_low, event_low}
+use Rattle.kfs_laws.specs.Plain.{is_plain, IsUnarmed, GoesPlainly}
+use Rattle.kfs_laws.proofs.Plans.{goes as goes_plainly}
+use Rattle.kfs_runner.proofs.Lives.{newborn_low, event_low, IsUp, step_up}
 use Rattle.kfs_runner.specs.Numbers.{limits_of, line_age}
 use Rattle.kfs_runner.specs.Load.{numbers_text, lines_text, load_text}
-use Rattle.kfs_runner.specs.Counts.{counted, is_down, Counts, plain_behind, IsCounted}
+use Rattle.kfs_runner.specs.Counts.{counted, is_down, Counts, IsUnplannedReply, IsUnplannedAnswer, plain_behind, IsCounted}
 
 -- ---- what a session knows of its tree
 
@@ -70,6 +72,7 @@ pub record IsAt (k : Limits) (point : MountState) (plain : Plain) (tally : Tally
   pub beside : Beside place live plain.world tally
   pub changes : ℕ
   pub young : IsYoung changes state.now
+  pub unarmed : IsUnarmed state
   pub spent : changes + length rest ≤ length all
   pub up : state.now ≡ Up own
   pub shows : shows_point point state
@@ -93,6 +96,7 @@ begins point plain ls shows is follow = record {
   beside = ap (λ (p : Plain). p.world) is;
   changes = 0;
   young = newborn_low;
+  unarmed = record { cut = refl; fault = refl };
   spent = omega arith;
   up = refl;
   shows = shows;
@@ -107,6 +111,30 @@ begins point plain ls shows is follow = record {
 
 abbrev pub PointDoes : MountState → State → Line → Answer → MountState → Type 0
 PointDoes point s line answer new = (t : State) × Event (point_limits point) s line answer t × shows_point new t × (point_limits new ≡ point_limits point)
+
+-- ---- what lines are answered
+
+unplanned_up : (reply : Reply) → IsUp reply → IsUnplannedReply reply
+unplanned_up (replies.Down cause) up = absurd up
+unplanned_up replies.Off up = absurd up
+unplanned_up reply up = tt
+
+unplanned_plainly : (k : Limits) (live : Live) (line : Line) (answer : Answer) (next : Now) → GoesPlainly k (Up live) line answer next → IsUnplannedAnswer answer
+unplanned_plainly k live (lines.Call call) answer next (d, free, inl done) =
+    let reply = (step k d live.world call).reply in
+    subst IsUnplannedAnswer (sym done.0) (unplanned_up reply (step_up k d live.world call))
+unplanned_plainly k live (lines.Call call) answer next (d, free, inr wants) = subst IsUnplannedAnswer (sym wants.0) tt
+unplanned_plainly k live lines.Mount answer next (inl done) = subst IsUnplannedAnswer (sym done.0) tt
+unplanned_plainly k live lines.Mount answer next (inr wants) = subst IsUnplannedAnswer (sym wants.0) tt
+unplanned_plainly k live (lines.Format blocks) answer next none = absurd none
+unplanned_plainly k live (lines.Cut n how) answer next none = absurd none
+unplanned_plainly k live (lines.Fail kind n) answer next none = absurd none
+
+-- where nothing is planned, a line is answered so
+pub answers_unplanned : (k : Limits) (point : MountState) (plain : Plain) (tally : Tally) (line : Line) (rest all : List Line) (answer : Answer) (at : IsAt k point plain tally rest all) (t : State) → is_plain line ≡ true → Event (point_limits point) at.state line answer t → IsUnplannedAnswer answer
+answers_unplanned k point plain tally line rest all answer at t nothing event =
+    let P : Now → Type 0 = λ now. EventAt (point_limits point) at.state now line answer t in
+    unplanned_plainly (point_limits point) at.own line answer t.now (goes_plainly (point_limits point) at.state t (Up at.own) line answer at.unarmed nothing at.up (subst P at.up event)).0
 
 -- a call that was counted is done
 record DoneBy (k : Limits) (s : State) (own : Live) (call : Call) (t : State) (old new : Tally) : Type 0 where
@@ -171,6 +199,7 @@ module _ (k : Limits) (point new : MountState) (plain : Plain) (tally next : Tal
         changes = at.changes + 1;
         spent = omega (arith, at.spent);
         young = event_low (point_limits point) at.changes at.state at.state.now (lines.Call call) answer went.0 at.young refl went.1;
+        unarmed = (goes_plainly (point_limits point) at.state went.0 at.state.now (lines.Call call) answer at.unarmed refl refl went.1).1;
         up = ap (λ (x : State). x.now) done.next;
         shows = went.2;
         limits = went.3 ∙ at.limits;
@@ -227,6 +256,7 @@ module _ (k : Limits) (point new : MountState) (plain : Plain) (tally next : Tal
         changes = at.changes + 1;
         spent = omega (arith, at.spent);
         young = event_low (point_limits point) at.changes at.state at.state.now lines.Mount answer went.0 at.young refl went.1;
+        unarmed = (goes_plainly (point_limits point) at.state went.0 at.state.now lines.Mount answer at.unarmed refl refl went.1).1;
         up = ap (λ (x : State). x.now) done.next;
         shows = went.2;
         limits = went.3 ∙ at.limits;
@@ -299,6 +329,19 @@ lines_hold = record {
   truncate = λ path size. tt;
   sync = tt;
   mount = tt;
+}
+
+pub plain_lines : HoldsOf (λ line. is_plain line ≡ true)
+plain_lines = record {
+  mkdir = λ path. refl;
+  opens = λ path. refl;
+  pwrite = λ bytes offset. refl;
+  close = refl;
+  unlink = λ path. refl;
+  rename = λ old new. refl;
+  truncate = λ path size. refl;
+  sync = refl;
+  mount = refl;
 }
 
 pub no_formats : HoldsOf (λ line. is_format line ≡ false)

@@ -36,14 +36,16 @@ use Rattle.kfs_runner.specs.Numbers.{line_age}
 use Rattle.kfs_runner.specs.Refusals.{Rested, damaged_in, whole_in, TellsDamage}
 use Rattle.kv_base.specs.declared.damage.Damage.{Damage}
 use Rattle.kv_device.specs.Objects.{IsHeld}
-use Rattle.kfs_damages.specs.Damages.{IsClear}
+use Rattle.kfs_damages.specs.Damages.{IsTreeDamage, IsClear}
+use Rattle.kfs_damages.proofs.One.{one_damage, damaged_is_not_clear}
 use Rattle.kfs_judge.specs.Judging.{heard, room_in}
 use Rattle.kssd_image.proofs.OneDamage.{damage_one}
 use Rattle.kfs_runner.proofs.Undamaged.{undamaged, clear_stored}
-use Rattle.kfs_runner.proofs.PointLaws.{point_stores, known_room, known_armed, limits_now, most_le, unstruck, low_counts}
+use Rattle.kfs_runner.proofs.Planning.{same_cut, cut_came}
+use Rattle.kfs_runner.proofs.PointLaws.{point_stores, known_room, known_armed, limits_now, most_le, unstruck, low_counts, damage_still}
 use Rattle.kfs_runner.specs.Stores.{WakeCause, NotWoken, IsOutside}
-use Rattle.kfs_runner.specs.Strikes.{strikes_of, struck, is_cut, is_failure}
-use Rattle.kfs_runner.specs.MountPoints.{MountState, Mounted, Bare, AreArmed, StandsAt, Stores, IsDown, ShowsBare, Known, KeptBy, IsLow, IsPointWhole, point_rested, shows_point, point_limits, point_machine, point_age, device_age, most_of, PointGoes}
+use Rattle.kfs_runner.specs.Strikes.{strikes_of, struck, is_cut, is_failure, PlansCut}
+use Rattle.kfs_runner.specs.MountPoints.{MountState, Mounted, Bare, AreArmed, StandsAt, Stores, IsDown, ShowsBare, Known, KeptBy, IsLow, IsPointWhole, point_rested, tree_damage, shows_point, point_limits, point_machine, point_age, device_age, most_of, PointGoes}
 
 -- ---- a mount
 
@@ -92,6 +94,11 @@ known_up point m now volume known up held clear mounts begins =
     let armed = known_armed point known in
     (with_now armed.0 (Up (up_at past found.1)), shows_up (point_machine point) volume.tx.machine.stable armed.0 volume (up_at past found.1) armed.1 got.1 begins)
 
+-- the objects of a device without a session have the damage
+stored_damage : (point : MountState) (damage : Damage) → tree_damage point damage → IsTreeDamage (room_in (point_machine point)) (heard (point_machine point).stable) damage
+stored_damage (Mounted session) damage is = absurd is
+stored_damage (Bare m age rested) damage is = is
+
 -- a mount goes on from what the device stores
 pub mount_goes : (point : MountState) (m : Machine) (new : SessionState) (n device : ℕ) → Known point → m ≡ restarted (point_machine point) → IsHeld m.stable → IsClear (room_in m) (heard m.stable) → Mounts m new.volume → new.volume.tx.machine ≡ begun (record m { stable = new.volume.tx.machine.stable }) 0 → new.volume.tx.changes < 2 ^ 62 → new.volume.tx.next < 2 ^ 62 → device ≤ device_age point + 2 ^ 20 → device ≤ 2 ^ 62 + 2 ^ 21 → Ages device new.device_age (2 ^ 38) → n ≡ new.volume.tx.changes → ((damage : Damage) → damaged_in (point_rested point) damage → ⊥) → PointGoes point lines.Mount (answers.Mounted n) (Mounted new)
 mount_goes point m new n device known up held clear mounts begins changes next woken low aged is none =
@@ -121,6 +128,10 @@ mount_goes point m new n device known up held clear mounts begins changes next w
             shows_up (point_machine point) now s new.volume (up_at st.past st.k) st.armed got.1 machine,
           );
       damaged = λ damage is. absurd (none damage is);
+      plans = same_cut (point_machine point) new.volume.tx.machine lines.Mount (answers.Mounted n) refl refl (ap (λ (x : Machine). x.cuts) machine) cuts;
+      unmountable = λ damage is takes below.
+          let C : Machine → Type 0 = λ x. IsClear (room_in x) (heard x.stable) in
+          absurd (damaged_is_not_clear (room_in (point_machine point)) (heard (point_machine point).stable) damage (stored_damage point damage is) (subst C up clear));
     }
 
 -- ---- a mount that fails
@@ -305,13 +316,21 @@ struck_by_fault old new NoMem low_cuts low_faults c =
     let faults : new.faults ≡ old.faults + 0 = omega (arith, c.1) in
     λ i. record { cuts = cuts i; faults = faults i }
 
+-- a cut that came isn't planned any more, and else the plan stays
+plans_by_fault : (old new : Machine) (fault : HostFault) → old.cuts < 2 ^ 63 → RoseBy old fault new → new.most_cuts ≡ old.most_cuts → PlansCut old lines.Mount (answer_of_host fault) new
+plans_by_fault old new (Damaged damage) low c most = same_cut old new lines.Mount (answers.Refused damage) refl refl c.0 most
+plans_by_fault old new Cut low c most = cut_came old new low c.0 most
+plans_by_fault old new Eio low c most = same_cut old new lines.Mount (answers.Reply (replies.Down causes.Eio)) refl refl c.1 most
+plans_by_fault old new NoMem low c most = same_cut old new lines.Mount (answers.Reply (replies.Down causes.NoMem)) refl refl c.0 most
+
 -- a mount that failed, and what it left
 falls_to : (point : MountState) (new : Machine) (fault : HostFault) (age : ℕ) (rested : Option Rested) → Known point → Fell (restarted (point_machine point)) fault new → age ≤ device_age point + line_age
     → ((s : State) → shows_point point s → IsLow s → IsPointWhole point → device_age point < 2 ^ 62 → IsOutside fault)
     → (IsPointWhole point → device_age point < 2 ^ 62 → whole_in rested)
     → ((damage : Damage) → damaged_in (point_rested point) damage → TellsDamage damage (answer_of_host fault) × (rested ≡ point_rested point))
+    → ((damage : Damage) → tree_damage point damage → IsPointWhole point → device_age point < 2 ^ 62 → TellsDamage damage (answer_of_host fault) × (new.stable ≡ (point_machine point).stable))
     → PointGoes point lines.Mount (answer_of_host fault) (Bare new age rested)
-falls_to point new fault age rested known here aged outside whole_left damaged =
+falls_to point new fault age rested known here aged outside whole_left damaged unmountable =
     let cuts = here.bounds.most_cuts in
     let faults = here.bounds.most_faults in
     let most = most_le point in
@@ -333,6 +352,10 @@ falls_to point new fault age rested known here aged outside whole_left damaged =
             bare_shows m new s (after_fault s fault) st here.keeps same (fell_now s fault) (fell_armed m new s fault st.armed here),
           );
       damaged = damaged;
+      plans = plans_by_fault (restarted m) new fault low.0 here.cause cuts;
+      unmountable = λ damage is takes below.
+          let told = unmountable damage is takes below in
+          record { answers = told.0; damaged = damage_still m new damage told.1 same (stored_damage point damage is); stays = told.1 };
     }
 
 -- objects that show a tree with low numbers are not refused
@@ -345,6 +368,13 @@ not_refused point new Cut held not s shows low = tt
 not_refused point new Eio held not s shows low = tt
 not_refused point new NoMem held not s shows low = tt
 
+-- damaged objects are refused by their damage
+refused_by : (m new : Machine) (fault : HostFault) (damage : Damage) → IsTreeDamage (room_in m) (heard m.stable) damage → HostCause m fault new → TellsDamage damage (answer_of_host fault)
+refused_by m new (Damaged told) damage is cause = one_damage (room_in m) (heard m.stable) told damage cause.0 is
+refused_by m new Cut damage is cause = tt
+refused_by m new Eio damage is cause = tt
+refused_by m new NoMem damage is cause = tt
+
 -- a mount that fails leaves what the device stores
 pub mount_falls : (point : MountState) (m new store : Machine) (fault : HostFault) (answer : Answer) (age : ℕ) (rested : Option Rested) → Known point → m ≡ restarted (point_machine point) → IsHeld m.stable → NotMounted m fault new → store ≡ down new → age ≤ device_age point + line_age → whole_in rested → ((damage : Damage) → damaged_in (point_rested point) damage → ⊥) → answer ≡ answer_of_host fault → PointGoes point lines.Mount answer (Bare store age rested)
 mount_falls point m new store fault answer age rested known up held not rests aged whole none is =
@@ -355,7 +385,10 @@ mount_falls point m new store fault answer age rested known up held not rests ag
     let here = subst P up not in
     let stored = subst H up held in
     subst Q (sym is) (falls_to point store fault age rested known (subst R (sym rests) (fell_mounting (restarted (point_machine point)) new fault here)) aged
-    (λ s shows low w below. not_refused point new fault stored here s shows low) (λ w below. whole) (λ damage at. absurd (none damage at)))
+    (λ s shows low w below. not_refused point new fault stored here s shows low) (λ w below. whole) (λ damage at. absurd (none damage at))
+    (λ damage at w below.
+    let stays = here.damaged damage (stored_damage point damage at) in
+    (refused_by (restarted (point_machine point)) new fault damage (stored_damage point damage at) here.cause, ap (λ (x : Machine). x.stable) rests ∙ stays)))
 
 -- ---- what a session leaves, and what it was before
 
@@ -381,6 +414,12 @@ tells rested old new Cut damage is cause = tt
 tells rested old new Eio damage is cause = tt
 tells rested old new NoMem damage is cause = tt
 
+outside_tells : (fault : HostFault) (damage : Damage) → IsOutside fault → TellsDamage damage (answer_of_host fault)
+outside_tells (Damaged told) damage out = absurd out
+outside_tells Cut damage out = tt
+outside_tells Eio damage out = tt
+outside_tells NoMem damage out = tt
+
 -- so does a device that can't be woken
 pub wake_falls : (point : MountState) (old new : Machine) (fault : HostFault) (answer : Answer) (age_old age : ℕ) (before rested : Option Rested) → Known point → down old ≡ down (point_machine point) → NotWoken before old fault new → age_old ≤ device_age point → age ≤ device_age point + line_age → KeptBy point old before
     → (whole_in before → age_old < 2 ^ 62 → IsOutside fault) → (whole_in before → age_old < 2 ^ 62 → whole_in rested) → ((damage : Damage) → damaged_in before damage → rested ≡ before) → answer ≡ answer_of_host fault
@@ -394,4 +433,8 @@ wake_falls point old new fault answer age_old age before rested known rests not 
     (λ damage at.
     let same = kept_rested point old before damage kept at in
     let here = subst (λ r. damaged_in r damage) (sym same) at in
-    (tells before old new fault damage here not.cause, stays damage here ∙ same)))
+    (tells before old new fault damage here not.cause, stays damage here ∙ same))
+    (λ damage at w below. (
+      outside_tells fault damage (outside (kept_whole point old before kept w) (omega (arith, less, below))),
+      ap (λ (x : Machine). x.stable) not.same ∙ ap (λ (x : Machine). x.stable) rests,
+    )))

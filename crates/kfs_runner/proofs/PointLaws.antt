@@ -37,6 +37,11 @@ use Rattle.kfs_runner.specs.Numbers.{line_age}
 use Rattle.kfs_runner.specs.Refusals.{Rested, whole_in}
 use Rattle.kfs_runner.specs.Stores.{WakeCause, NotWoken}
 use Rattle.kfs_runner.specs.Strikes.{strikes_of, struck, is_cut, is_failure}
+use Rattle.kfs_runner.proofs.Lives.{event_arms}
+use Rattle.kfs_runner.proofs.Planning.{one_if_le, by_states, same_cut}
+use Rattle.kfs_damages.specs.Damages.{IsTreeDamage}
+use Rattle.kfs_judge.specs.Judging.{heard, room_in}
+use Rattle.kv_base.specs.declared.damage.Damage.{Damage}
 use Rattle.kfs_runner.specs.MountPoints.{MountState, Mounted, Bare, AreArmed, StandsAt, Stores, IsDown, ShowsBare, Known, IsNew, shows_point, point_limits, point_machine, point_age, device_age, most_of, PointGoes}
 
 -- ---- what is shown is stored
@@ -89,10 +94,6 @@ pub most_le : (point : MountState) → most_of (point_machine point) ≤ point_a
 most_le (Mounted session) = omega arith
 most_le (Bare m age rested) = omega arith
 
-pub one_if_le : (armed : Bool) → one_if armed ≤ 1
-one_if_le true = omega arith
-one_if_le false = omega arith
-
 -- counts that stayed
 pub unstruck : (old new : Machine) (answer : Answer) → is_cut answer ≡ false → is_failure answer ≡ false → new.cuts ≡ old.cuts → new.faults ≡ old.faults → strikes_of new ≡ struck (strikes_of old) answer
 unstruck old new answer no_cut no_failure cuts faults =
@@ -107,6 +108,13 @@ pub low_counts : (point : MountState) → Known point → ((point_machine point)
 low_counts point known =
     let armed = (known_armed point known).1 in
     (omega (arith, armed.most_cuts, armed.few_cuts), omega (arith, armed.most_faults, armed.few_faults))
+
+-- objects that stay have the same damage
+pub damage_still : (old new : Machine) (damage : Damage) → new.stable ≡ old.stable → limits_in new ≡ limits_in old → IsTreeDamage (room_in old) (heard old.stable) damage → IsTreeDamage (room_in new) (heard new.stable) damage
+damage_still old new damage stable room is =
+    let L : Limits → Type 0 = λ l. IsTreeDamage l (heard new.stable) damage in
+    let O : Objects → Type 0 = λ o. IsTreeDamage (room_in old) (heard o) damage in
+    subst L (sym room) (subst O (sym stable) is)
 
 -- ---- a call
 
@@ -149,6 +157,8 @@ call_goes old new call reply known goes counts room aged =
       whole = λ before young. tt;
       each = λ s shows at whole young. event_of old.volume new.volume (lines.Call call) (answers.Reply reply) goes s shows;
       damaged = λ damage none. absurd none;
+      plans = by_states old.volume.tx.machine new.volume.tx.machine (lines.Call call) (answers.Reply reply) known.0.cut_armed it.0.cut_armed known.1.cuts it.2.cuts (event_arms (limits_of old.volume) known.0 known.0.now (lines.Call call) (answers.Reply reply) it.0 it.1);
+      unmountable = λ damage none takes low. absurd none;
     }
 
 off_at : (l : Limits) (s : State) (now : Now) (call : Call) → IsDown now → EventAt l s now (lines.Call call) (answers.Reply replies.Off) s
@@ -165,6 +175,8 @@ off_goes m age rested call known = record {
   whole = λ before young. before;
   each = λ s shows at whole young. (s, off_at (point_limits (Bare m age rested)) s s.now call shows.down, shows);
   damaged = λ damage is. (refl, refl);
+  plans = same_cut m m (lines.Call call) (answers.Reply replies.Off) refl refl refl refl;
+  unmountable = λ damage is takes low. record { answers = refl; damaged = is; stays = refl };
 }
 
 -- ---- plans
@@ -202,6 +214,8 @@ cut_goes old new n how known goes planned room same device young =
       whole = λ before low. tt;
       each = λ s shows at whole low. event_of old.volume new.volume (lines.Cut n how) (answers.Reply replies.Done) (goes few) s shows;
       damaged = λ damage none. absurd none;
+      plans = by_states old.volume.tx.machine new.volume.tx.machine (lines.Cut n how) (answers.Reply replies.Done) known.0.cut_armed it.0.cut_armed known.1.cuts it.2.cuts (event_arms (limits_of old.volume) known.0 known.0.now (lines.Cut n how) (answers.Reply replies.Done) it.0 it.1);
+      unmountable = λ damage none takes low. absurd none;
     }
 
 pub fail_goes : (old new : SessionState) (kind n : ℕ) → Known (Mounted old) → (old.volume.tx.machine.faults + 1 < 2 ^ 63 → GoesOn old.volume (lines.Fail kind n) (answers.Reply replies.Done) new.volume) → new.volume.tx.machine ≡ with_most_faults old.volume.tx.machine new.volume.tx.machine.most_faults → new.volume.tx.machine.most_faults ≤ one_more old.volume.tx.machine.faults → limits_of new.volume ≡ limits_of old.volume → age_of (running_in new) ≡ age_of (running_in old) → new.device_age ≡ old.device_age → point_age (Mounted old) < 2 ^ 63 - 2 ^ 40 → PointGoes (Mounted old) (lines.Fail kind n) (answers.Reply replies.Done) (Mounted new)
@@ -220,6 +234,8 @@ fail_goes old new kind n known goes planned bound room same device young =
       whole = λ before low. tt;
       each = λ s shows at whole low. event_of old.volume new.volume (lines.Fail kind n) (answers.Reply replies.Done) (goes few) s shows;
       damaged = λ damage none. absurd none;
+      plans = by_states old.volume.tx.machine new.volume.tx.machine (lines.Fail kind n) (answers.Reply replies.Done) known.0.cut_armed it.0.cut_armed known.1.cuts it.2.cuts (event_arms (limits_of old.volume) known.0 known.0.now (lines.Fail kind n) (answers.Reply replies.Done) it.0 it.1);
+      unmountable = λ damage none takes low. absurd none;
     }
 
 -- the bounds of the counts change alone, and the device stores what it stored
@@ -285,6 +301,8 @@ bare_cut m new age age_now rested now n how known planned same stays young =
         restored m new s (cut_armed s) shows.stores (ap (λ (x : Machine). x.stable) planned) (ap limits_in planned) refl shows.down (armed_cut m new s shows.stores.armed planned low),
       );
       damaged = λ damage is. (refl, stays);
+      plans = by_states m new (lines.Cut n how) (answers.Reply replies.Done) known.0.cut_armed true known.1.cuts (armed_cut m new known.0 known.1 planned low).cuts refl;
+      unmountable = λ damage is takes below. record { answers = refl; damaged = damage_still m new damage (ap (λ (x : Machine). x.stable) planned) (ap limits_in planned) is; stays = ap (λ (x : Machine). x.stable) planned };
     }
 
 pub bare_fail : (m new : Machine) (age age_now : ℕ) (rested now : Option Rested) (kind n : ℕ) → Known (Bare m age rested) → new ≡ with_most_faults m new.most_faults → m.faults ≤ new.most_faults → new.most_faults ≤ one_more m.faults → age_now ≡ age → now ≡ rested → point_age (Bare m age rested) < 2 ^ 63 - 2 ^ 40 → PointGoes (Bare m age rested) (lines.Fail kind n) (answers.Reply replies.Done) (Bare new age_now now)
@@ -306,6 +324,8 @@ bare_fail m new age age_now rested now kind n known planned least bound same sta
         restored m new s (fail_armed s) shows.stores (ap (λ (x : Machine). x.stable) planned) (ap limits_in planned) refl shows.down (armed_fail m new s shows.stores.armed planned least bound low),
       );
       damaged = λ damage is. (refl, stays);
+      plans = same_cut m new (lines.Fail kind n) (answers.Reply replies.Done) refl refl cuts others;
+      unmountable = λ damage is takes below. record { answers = refl; damaged = damage_still m new damage (ap (λ (x : Machine). x.stable) planned) (ap limits_in planned) is; stays = ap (λ (x : Machine). x.stable) planned };
     }
 
 -- ---- a format
@@ -329,12 +349,10 @@ room_of keys pages h =
     let none : nat_le 0 pages ≡ true = grind (arith, nat_tests) in
     λ i. few i && none i
 
--- a session on a new file system shows where a life begins
-pub begins : (m : Machine) (new : SessionState) → IsNew m → 3 ≤ m.room_keys → Mounts m new.volume → new.volume.tx.machine ≡ begun (record m { stable = new.volume.tx.machine.stable }) 0 → ShowsState new.volume newborn × (limits_of new.volume ≡ limits_in m)
-begins m new is room mounts machine =
-    let keys = m.room_keys in
-    let pages = m.room_pages in
-    let saved : IsSaved (record { keys = keys; pages = pages }) first_objects root_alone 0 = record {
+-- a new file system is the tree of a root alone
+pub first_saved : (m : Machine) → IsNew m → 3 ≤ m.room_keys → IsSaved (limits_in m) m.stable root_alone 0
+first_saved m is room =
+    let saved : IsSaved (limits_in m) first_objects root_alone 0 = record {
       tree = root_is_tree;
       kept = root_alone;
       is_kept = kept_all root_alone root_is_tree;
@@ -342,10 +360,15 @@ begins m new is room mounts machine =
       shows = first_shows;
       next = omega arith;
       count = omega arith;
-      room = room_of keys pages room;
+      room = room_of m.room_keys m.room_pages room;
     } in
     let S : Objects → Type 0 = λ o. IsSaved (limits_in m) o root_alone 0 in
-    let got = mounts.each first_past 0 (subst S (sym is.stable) saved) in
+    subst S (sym is.stable) saved
+
+-- a session on a new file system shows where a life begins
+pub begins : (m : Machine) (new : SessionState) → IsNew m → 3 ≤ m.room_keys → Mounts m new.volume → new.volume.tx.machine ≡ begun (record m { stable = new.volume.tx.machine.stable }) 0 → ShowsState new.volume newborn × (limits_of new.volume ≡ limits_in m)
+begins m new is room mounts machine =
+    let got = mounts.each first_past 0 (first_saved m is room) in
     let Q : Tree → Type 0 = λ t. ShowsLive new.volume (live_of t) in
     let live = subst Q (named_whole root_alone root_whole) got.1 in
     let cuts = ap (λ (x : Machine). x.cuts) machine in

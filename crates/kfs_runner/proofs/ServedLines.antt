@@ -1,7 +1,8 @@
 -- What was done on a device that rests, and on a flash.
-use Rattle.std.proofs.Common.{◌≡◌, ◌≤◌, ◌<◌, ◌+◌, ◌^◌, ◌++◌, ◌∷◌, ◌∙◌, [], ℕ, Option, Some, List, cond, Bool, true, false, length, refl, sym, ap, subst, arith}
+use Rattle.std.proofs.Common.{◌≡◌, ◌≤◌, ◌<◌, ◌+◌, ◌^◌, ◌++◌, ◌∷◌, ◌∙◌, [], ℕ, Some, List, cond, Bool, true, false, length, refl, sym, ap, subst, arith}
 use Rattle.std.specs.List.{count_by}
 use Rattle.std.proofs.lemmas.List.Sums.{sum_by-cons}
+use Rattle.kv_base.specs.declared.damage.Damage.{Damage}
 use Rattle.kv_nand.specs.Flash.{Flash}
 use Rattle.kv_device.specs.Machine.{Machine, down}
 use Rattle.kfs_path.specs.declared.call.Reply.TheVariants as replies
@@ -23,15 +24,16 @@ use Rattle.kssd_mount.proofs.Taking.{taken}
 use Rattle.kfs_runner.specs.Flashes.{HasBlocks, new_on}
 use Rattle.kfs_runner.specs.Numbers.{limits_of}
 use Rattle.kfs_runner.specs.Lines.{AnsweredFrom, OverflowsFrom}
-use Rattle.kfs_runner.specs.Strikes.{Strikes, strikes_of, struck_by, is_cut, is_failure}
-use Rattle.kfs_runner.specs.MountPoints.{MountState, Known, Stores, shows_point, point_limits, point_machine, point_strikes}
+use Rattle.kfs_runner.specs.Strikes.{Strikes, strikes_of, struck_by, is_cut, is_failure, is_planned_behind}
+use Rattle.kfs_runner.specs.MountPoints.{MountState, Known, Stores, shows_point, point_limits, point_machine}
 use Rattle.kfs_runner.specs.Serving.{formats, AreDone, IsServed, Overflows, StandsFor, StopsServing, StopsBehind, output_limit}
 use Rattle.kfs_runner.specs.declared.serving.ServeFault.{ServeFault}
 use Rattle.kfs_runner.specs.declared.serving.ServeFault.TheVariants.{TooLong, Memory}
-use Rattle.kfs_runner.specs.Refusals.{Rested, rested_on, whole_in}
+use Rattle.kfs_runner.specs.Refusals.{rested_on, whole_in}
 use Rattle.kfs_runner.specs.Young.{IsYoung}
 use Rattle.kfs_runner.proofs.PointLaws.{point_stores, known_room}
 use Rattle.kfs_runner.proofs.LinesMore.{one_counted}
+use Rattle.kfs_runner.proofs.Planning.{cut_rests}
 use Rattle.kfs_runner.proofs.Lives.{armed_by, armed_at_end, stays_low, newborn_young}
 
 -- ---- on a device
@@ -90,19 +92,21 @@ struck_first before given =
     let faults = counted_first is_failure given refl in
     λ i. record { cuts = before.cuts + cuts i; faults = before.faults + faults i }
 
-pub done : (old new : MountState) (rests : Machine) (ls : List Line) (first text : List ℕ) (begins : State → Type 0) (rested : Option Rested) → Known new → AnsweredFrom (point_limits old) ls output_limit first text begins (shows_point new) rested (point_strikes old) (point_strikes new) → point_limits new ≡ point_limits old → down rests ≡ down (point_machine new) → AreDone (point_limits old) ls first text begins rested (point_strikes old) rests
-done old new rests ls first text begins rested known all room same = record {
+pub done : (old new : MountState) (rests : Machine) (ls : List Line) (first text : List ℕ) (begins : State → Type 0) (refused : Damage → Type 0) → Known new → AnsweredFrom (point_limits old) ls output_limit first text begins (shows_point new) refused (point_machine old) (point_machine new) → point_limits new ≡ point_limits old → down rests ≡ down (point_machine new) → AreDone (point_limits old) ls first text begins refused (point_machine old) rests
+done old new rests ls first text begins refused known all room same = record {
   given = all.given;
+  one_each = all.one_each;
   same = all.text;
   short = all.short;
   lives = λ s begin young. let it = all.lives s begin young in (it.0, it.1, stores_rest (point_machine new) rests it.0 same (point_stores new it.0 it.2));
   damaged = all.damaged;
   room = ap limits_in same ∙ sym (known_room new known) ∙ room;
   strikes = ap strikes_of same ∙ all.strikes;
+  plans = λ planned has. cut_rests (point_machine new) rests (is_planned_behind planned ls all.given) same (all.plans planned has);
 }
 
-pub too_much : (limits : Limits) (ls : List Line) (first text : List ℕ) (begins : State → Type 0) (rested : Option Rested) → first ≡ text_of done_first → begins newborn → OverflowsFrom limits ls output_limit first text begins rested → Overflows limits ls text
-too_much limits ls first text begins rested is begin over =
+pub too_much : (limits : Limits) (ls : List Line) (first text : List ℕ) (begins : State → Type 0) (refused : Damage → Type 0) → first ≡ text_of done_first → begins newborn → OverflowsFrom limits ls output_limit first text begins refused → Overflows limits ls text
+too_much limits ls first text begins refused is begin over =
     let it = over.lives newborn begin newborn_young in
     record {
       count = over.count;
@@ -116,9 +120,9 @@ too_much limits ls first text begins rested is begin over =
       above = over.above;
     }
 
-pub stops : (limits : Limits) (ls : List Line) (first : List ℕ) (begins : State → Type 0) (rested : Option Rested) (fault : ServeFault) → first ≡ text_of done_first → begins newborn → StopsBehind limits ls first begins rested fault → StopsServing limits ls fault
-stops limits ls first begins rested (TooLong text) is begin over = too_much limits ls first text begins rested is begin over
-stops limits ls first begins rested Memory is begin over = tt
+pub stops : (limits : Limits) (ls : List Line) (first : List ℕ) (begins : State → Type 0) (refused : Damage → Type 0) (fault : ServeFault) → first ≡ text_of done_first → begins newborn → StopsBehind limits ls first begins refused fault → StopsServing limits ls fault
+stops limits ls first begins refused (TooLong text) is begin over = too_much limits ls first text begins refused is begin over
+stops limits ls first begins refused Memory is begin over = tt
 
 -- ---- on a flash
 
@@ -141,12 +145,11 @@ same_blocks a b least_a least_b same =
     let pages = ap (λ (l : Limits). l.pages) same in
     omega (arith, keys, pages)
 
-pub moved : (l k : Limits) (ls : List Line) (old text : List ℕ) (begins : State → Type 0) (rested : Option Rested) (s t : Strikes) (m n : Machine) → l ≡ k → s ≡ t → n ≡ m → AreDone l ls old text begins rested s m → AreDone k ls old text begins rested t n
-moved l k ls old text begins rested s t m n limits strikes device all =
-    let L : Limits → Type 0 = λ x. AreDone x ls old text begins rested s m in
-    let S : Strikes → Type 0 = λ x. AreDone k ls old text begins rested x m in
-    let M : Machine → Type 0 = λ x. AreDone k ls old text begins rested t x in
-    subst M (sym device) (subst S strikes (subst L limits all))
+pub moved : (l k : Limits) (ls : List Line) (old text : List ℕ) (begins : State → Type 0) (refused : Damage → Type 0) (before m n : Machine) → l ≡ k → n ≡ m → AreDone l ls old text begins refused before m → AreDone k ls old text begins refused before n
+moved l k ls old text begins refused before m n limits device all =
+    let L : Limits → Type 0 = λ x. AreDone x ls old text begins refused before m in
+    let M : Machine → Type 0 = λ x. AreDone k ls old text begins refused before x in
+    subst M (sym device) (subst L limits all)
 
 -- a mount takes what is left, and its objects stand for a tree with which the life ends
 pub stands_for : (blocks : ℕ) (new : Flash) (old end : State) (ls : List Line) (given : List Answer) → new.blocks ≡ blocks → length ls ≤ 2 ^ 22 → IsYoung (2 ^ 61) old.now → Life (limits_of blocks) old ls given end → whole_in (Some (rested_on new)) → age_in new.image < 2 ^ 62 → Stores (resting new) end → StandsFor blocks new.image end
@@ -164,11 +167,11 @@ stands_for blocks new old end ls given same few young life whole low stores =
     })
 
 -- lines behind a format
-pub served : (old new : Flash) (ls : List Line) (first text : List ℕ) (begins : State → Type 0) (rested : Option Rested) → 256 ≤ old.blocks → length ls ≤ 2 ^ 22 → HasBlocks new → whole_in (Some (rested_on new)) → age_in new.image < 2 ^ 62 → first ≡ text_of done_first → begins newborn → AreDone (limits_of old.blocks) ls first text begins rested (strikes_of (new_on old)) (resting new) → IsServed ls text old new
-served old new ls first text begins rested least few has whole low is begin all =
+pub served : (old new : Flash) (ls : List Line) (first text : List ℕ) (begins : State → Type 0) (refused : Damage → Type 0) (before : Machine) → 256 ≤ old.blocks → length ls ≤ 2 ^ 22 → HasBlocks new → whole_in (Some (rested_on new)) → age_in new.image < 2 ^ 62 → first ≡ text_of done_first → begins newborn → strikes_of before ≡ strikes_of (new_on old) → AreDone (limits_of old.blocks) ls first text begins refused before (resting new) → IsServed ls text old new
+served old new ls first text begins refused before least few has whole low is begin counts all =
     let blocks : new.blocks ≡ old.blocks = same_blocks new.blocks old.blocks has.least least all.room in
     let it = all.lives newborn begin newborn_young in
-    let strikes = all.strikes ∙ sym (struck_first (strikes_of (new_on old)) all.given) in
+    let strikes = all.strikes ∙ ap (λ (s : Strikes). struck_by s all.given) counts ∙ sym (struck_first (strikes_of (new_on old)) all.given) in
     record {
       given = done_first ∷ all.given;
       blocks = blocks;

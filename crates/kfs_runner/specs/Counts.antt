@@ -1,5 +1,6 @@
 -- What is counted while lines are done on a session, and on a plain tree beside it.
 use Rattle.std.specs.Prelude.{◌+◌, ◌≡◌, Bool, true, false, List}
+use Rattle.kfs_path.specs.declared.call.Cause.TheVariants as causes
 use Rattle.kfs_path.specs.declared.call.Reply.{Reply}
 use Rattle.kfs_path.specs.declared.call.Reply.TheVariants as replies
 use Rattle.kfs_model.specs.declared.Line.{Line}
@@ -18,6 +19,19 @@ use Rattle.kfs_runner.specs.declared.load.Tally.{Tally}
 abbrev pub counted : Tally → Bool → Tally
 counted t true = record { dones = t.dones; errors = t.errors + 1; changes = t.changes }
 counted t false = record { dones = t.dones + 1; errors = t.errors; changes = t.changes }
+
+-- a reply where neither a cut nor a fault is planned: the session isn't down but for want of memory
+abbrev pub IsUnplannedReply : Reply → Type 0
+IsUnplannedReply (replies.Down causes.Cut) = ⊥
+IsUnplannedReply (replies.Down causes.Eio) = ⊥
+IsUnplannedReply replies.Off = ⊥
+IsUnplannedReply reply = Unit {0}
+
+-- an answer likewise: nothing is refused
+abbrev pub IsUnplannedAnswer : Answer → Type 0
+IsUnplannedAnswer (answers.Reply reply) = IsUnplannedReply reply
+IsUnplannedAnswer (answers.Mounted n) = Unit {0}
+IsUnplannedAnswer (answers.Refused damage) = ⊥
 
 -- the session is down
 abbrev pub is_down : Reply → Bool

@@ -13,20 +13,12 @@ use Rattle.kfs_runner.specs.declared.ending.Ending.{Ending}
 use Rattle.kfs_runner.specs.declared.ending.Ending.TheVariants.{Quiet, Prints}
 use Rattle.kfs_runner.specs.declared.words.Task.{Task}
 use Rattle.kfs_runner.specs.declared.words.Task.TheVariants.{Nothing, Run, Make}
-use Rattle.kfs_runner.specs.Outside.{HasRisen, Takes, TakesSome, IsReadOut}
+use Rattle.kfs_runner.specs.Outside.{Side, HasRisen, Takes, TakesSome, IsReadOut}
 use Rattle.kfs_runner.specs.Reading.{script_limit}
 use Rattle.kfs_runner.specs.Numbers.{limits_of}
 use Rattle.kfs_runner.specs.Serving.{IsAnswered, Overflows, IsServedOn, OverflowsOn}
 use Rattle.kfs_runner.specs.Words.{task_of}
 use Rattle.kfs_runner.specs.Load.{load_text}
-
--- what an end of the program tells: its bytes, where it tells them, and how often it failed
-pub record Side : Type 0 where
-  pub bytes : Option (List ℕ)
-  pub faults : ℕ
-
-abbrev pub side : Option (List ℕ) → ℕ → Side
-side bytes faults = record { bytes = bytes; faults = faults }
 
 -- what words and a script come to: a status with its text, the answers to the lines on a new file
 -- system of so many blocks or on the image of the shelf, or the line of a load
@@ -183,7 +175,7 @@ IsLoadDue seed count blocks (Prints status text) = (status ≡ 0) × (text ≡ l
 
 -- a source that told nothing
 abbrev pub unread : Side
-unread = side None 0
+unread = record { bytes = None; faults = 0 }
 
 -- what a script comes to once it is read, and what was put
 abbrev pub IsScriptDue : Result (List Line) ℕ → Side → Side → Ending → Type 0

@@ -2,6 +2,8 @@
 use Rattle.std.specs.Prelude.{ℕ, true, ◌≡◌, ◌≤◌, ◌<◌, ◌+◌, ◌^◌, max, Option, None}
 use Rattle.kv_base.specs.declared.damage.Damage.{Damage}
 use Rattle.kv_device.specs.Machine.{Machine, none_open}
+use Rattle.kfs_damages.specs.Damages.{IsTreeDamage}
+use Rattle.kfs_judge.specs.Judging.{heard, room_in}
 use Rattle.kfs_model.specs.declared.Line.{Line}
 use Rattle.kfs_model.specs.declared.Answer.{Answer}
 use Rattle.kfs_model.specs.Tree.{Limits}
@@ -13,7 +15,7 @@ use Rattle.kfs_posix.specs.Showing.{ShowsState, IsSaved, one_if}
 use Rattle.kfs_posix.specs.Mounting.{limits_in}
 use Rattle.kfs_runner.specs.declared.mount_point.MountPoint.{MountPoint}
 use Rattle.kfs_runner.specs.declared.mount_point.MountPoint.TheVariants as points
-use Rattle.kfs_runner.specs.Strikes.{Strikes, strikes_of, struck}
+use Rattle.kfs_runner.specs.Strikes.{strikes_of, struck, PlansCut}
 use Rattle.kfs_runner.specs.Numbers.{line_age}
 use Rattle.kfs_runner.specs.Refusals.{Rested, damaged_in, whole_in, AnswersDamage}
 
@@ -84,10 +86,6 @@ abbrev pub point_machine : MountState → Machine
 point_machine (Mounted session) = session.volume.tx.machine
 point_machine (Bare machine age rested) = machine
 
--- how often power was cut, and how often an operation failed
-abbrev pub point_strikes : MountState → Strikes
-point_strikes point = strikes_of (point_machine point)
-
 -- a device that is up with a new file system alone, for which no cut and no fault is planned
 pub record IsNew (m : Machine) : Type 0 where
   pub up : m.up ≡ true
@@ -108,6 +106,11 @@ abbrev pub point_rested : MountState → Option Rested
 point_rested (Mounted session) = None
 point_rested (Bare machine age rested) = rested
 
+-- the first damage of the objects that a device without a session stores
+abbrev pub tree_damage : MountState → Damage → Type 0
+tree_damage (Mounted session) damage = ⊥
+tree_damage (Bare machine age rested) damage = IsTreeDamage (room_in machine) (heard machine.stable) damage
+
 -- a mount takes the image, up to the limit on its numbers
 abbrev pub IsPointWhole : MountState → Type 0
 IsPointWhole point = whole_in (point_rested point)
@@ -121,15 +124,24 @@ abbrev pub KeptBy : MountState → Machine → Option Rested → Type 0
 KeptBy (Mounted session) now rested = whole_in rested
 KeptBy (Bare machine age before) now rested = (now ≡ machine) × (rested ≡ before)
 
--- a line and its answer. What is known stays so, and the answer tells each cut and each fault. From each state that was shown, where nothing of it is
--- refused, they lead to one that is shown now. On a damaged image they are what that damage is answered, and the image stays
+-- what that damage is answered, and the objects stay
+pub record RefusesTree (old : MountState) (damage : Damage) (line : Line) (answer : Answer) (new : MountState) : Type 0 where
+  pub answers : AnswersDamage damage line answer
+  pub damaged : tree_damage new damage
+  pub stays : (point_machine new).stable ≡ (point_machine old).stable
+
+-- a line and its answer. What is known stays so, and the answer tells each cut and each fault, and whether a cut is planned. From each state that was shown,
+-- where nothing of it is refused, they lead to one that is shown now. On a damaged image they are what that damage is answered, and the image stays;
+-- so it is of damaged objects in an image that a mount takes
 pub record PointGoes (old : MountState) (line : Line) (answer : Answer) (new : MountState) : Type 0 where
   pub known : Known new
   pub limits : point_limits new ≡ point_limits old
   pub age : point_age new ≤ max (point_age old) (2 ^ 62) + line_age
   pub device : device_age new ≤ device_age old + line_age
-  pub strikes : point_strikes new ≡ struck (point_strikes old) answer
+  pub strikes : strikes_of (point_machine new) ≡ struck (strikes_of (point_machine old)) answer
   pub whole : IsPointWhole old → device_age old < 2 ^ 62 → IsPointWhole new
   pub each : (s : State) → shows_point old s → IsLow s → IsPointWhole old → device_age old < 2 ^ 62 →
       (t : State) × Event (point_limits old) s line answer t × shows_point new t
   pub damaged : (damage : Damage) → damaged_in (point_rested old) damage → AnswersDamage damage line answer × (point_rested new ≡ point_rested old)
+  pub plans : PlansCut (point_machine old) line answer (point_machine new)
+  pub unmountable : (damage : Damage) → tree_damage old damage → IsPointWhole old → device_age old < 2 ^ 62 → RefusesTree old damage line answer new

@@ -2,6 +2,11 @@
 use Rattle.std.specs.Prelude.{ℕ, ◌≡◌, ◌≤◌, List, [], ◌++◌, Option, Some, IfSome}
 use Rattle.kv_base.specs.Counts.{one_more}
 
+-- what an end of the program tells: its bytes, where it tells them, and how often it failed
+pub record Side : Type 0 where
+  pub bytes : Option (List ℕ)
+  pub faults : ℕ
+
 -- a count of faults rose; at its greatest it stays
 abbrev pub HasRisen : ℕ → ℕ → Type 0
 HasRisen before now = one_more before ≤ now

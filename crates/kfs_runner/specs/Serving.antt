@@ -1,5 +1,5 @@
 -- What doing the lines of a script on a flash gives.
-use Rattle.std.specs.Prelude.{Option, ℕ, ◌≡◌, ◌≤◌, ◌<◌, ◌+◌, ◌++◌, ◌==◌, ◌^◌, Bool, true, false, List, [], ◌∷◌, length, take, drop}
+use Rattle.std.specs.Prelude.{ℕ, ◌≡◌, ◌≤◌, ◌<◌, ◌+◌, ◌++◌, ◌==◌, ◌^◌, Bool, true, false, List, [], ◌∷◌, length, take, drop}
 use Rattle.std.specs.List.{count_by}
 use Rattle.kv_nand.specs.Flash.{Flash, Image}
 use Rattle.kfs_path.specs.declared.call.Reply.TheVariants as replies
@@ -14,7 +14,9 @@ use Rattle.kssd_image.specs.Stages.{objects_in}
 use Rattle.kssd_image.specs.Whole.{Sound, age_in}
 use Rattle.kssd_image.specs.Damages.{IsDamage}
 use Rattle.kv_base.specs.declared.damage.Damage.{Damage}
+use Rattle.kfs_damages.specs.Damages.{IsTreeDamage}
 use Rattle.kfs_damages.specs.Laws.{StandFor}
+use Rattle.kfs_judge.specs.Judging.{heard}
 use Rattle.kfs_runner.specs.declared.serving.ServeFault.{ServeFault}
 use Rattle.kfs_runner.specs.declared.serving.ServeFault.TheVariants.{TooLong, Memory}
 use Rattle.kfs_runner.specs.Numbers.{limits_of}
@@ -22,9 +24,9 @@ use Rattle.kfs_posix.specs.Mounting.{limits_in}
 use Rattle.kfs_model.specs.Tree.{Tree, Limits}
 use Rattle.kv_device.specs.Machine.{Machine}
 use Rattle.kfs_runner.specs.MountPoints.{StandsAt, Stores}
-use Rattle.kfs_runner.specs.Refusals.{Rested, AnswerDamage}
+use Rattle.kfs_runner.specs.Refusals.{AnswerDamage}
 use Rattle.kfs_runner.specs.Lines.{AreLives, AreRefusals, OverflowsFrom}
-use Rattle.kfs_runner.specs.Strikes.{Strikes, strikes_of, struck_by, is_cut, is_failure, is_cut_planned}
+use Rattle.kfs_runner.specs.Strikes.{strikes_of, struck_by, is_cut, is_failure, is_cut_planned, PlanCuts}
 
 -- the most bytes of the text of the answers
 abbrev pub output_limit : ℕ
@@ -91,15 +93,17 @@ pub record Overflows (limits : Limits) (ls : List Line) (text : List ℕ) : Type
   pub above : output_limit < length text
 
 -- lines were done on a device that rests now: their answers, each cut and each fault told by one; they are lives from what was shown,
--- with a tree with which they end stored, and refusals of what was damaged
-pub record AreDone (limits : Limits) (ls : List Line) (old text : List ℕ) (begins : State → Type 0) (rested : Option Rested) (before : Strikes) (device : Machine) : Type 0 where
+-- with a tree with which they end stored, and refusals of what was damaged; and whether a cut is planned
+pub record AreDone (limits : Limits) (ls : List Line) (old text : List ℕ) (begins : State → Type 0) (refused : Damage → Type 0) (before device : Machine) : Type 0 where
   pub given : List Answer
+  pub one_each : length given ≡ length ls
   pub same : text ≡ old ++ texts_of given
   pub short : length text ≤ output_limit
   pub lives : AreLives limits ls given begins (Stores device)
-  pub damaged : AreRefusals ls given rested
+  pub damaged : AreRefusals ls given refused
   pub room : limits_in device ≡ limits
-  pub strikes : strikes_of device ≡ struck_by before given
+  pub strikes : strikes_of device ≡ struck_by (strikes_of before) given
+  pub plans : PlanCuts before ls given device
 
 -- the lines behind a format were done on a flash: their answers, each cut and each fault of the flash
 -- told by one, what the flash holds then, and whether one more cut is planned
@@ -119,21 +123,37 @@ pub record IsHonest (blocks : ℕ) (image : Image) (t : Tree) (k : ℕ) : Type 0
   pub few : k < 2 ^ 61
   pub low : t.next < 2 ^ 61
 
+-- an image that a mount of the device takes, with numbers below `2 ^ 61`, whose objects have this first damage
+pub record IsUnmountable (blocks : ℕ) (image : Image) (damage : Damage) : Type 0 where
+  pub sound : Sound blocks image
+  pub age : age_in image < 2 ^ 61
+  pub damaged : IsTreeDamage (limits_of blocks) (heard (objects_in image)) damage
+
+-- the answers to lines on it are that damage's, and its objects stay
+pub record RefusesTree (ls : List Line) (given : List Answer) (damage : Damage) (blocks : ℕ) (old new : Image) : Type 0 where
+  pub answers : AnswerDamage damage ls given
+  pub sound : Sound blocks new
+  pub stays : objects_in new ≡ objects_in old
+
 -- a life of this tree that is down
 abbrev pub rests_at : Tree → ℕ → State
 rests_at t k = record { now = Down (record { count = k; trees = t ∷ [] }) (k ∷ []); cut_armed = false; fail_armed = false }
 
--- lines were done on a flash with an image that was taken: their answers, and each cut and each fault of the flash told by one. An honest image begins a
--- life that is down, and the flash holds a tree with which it ends. A damaged image is refused by each mount, and stays
+-- lines were done on a flash with an image that was taken: an answer to each, each cut and each fault of the flash told by one, and whether one more cut is
+-- planned. An honest image begins a life that is down, and the flash holds a tree with which it ends. A damaged image is refused by each mount, and stays; of
+-- one with a damaged tree the objects stay
 pub record IsServedOn (ls : List Line) (text : List ℕ) (old new : Flash) : Type 0 where
   pub given : List Answer
+  pub one_each : length given ≡ length ls
   pub blocks : new.blocks ≡ old.blocks
   pub same : text ≡ texts_of given
   pub short : length text ≤ output_limit
   pub cuts : new.cuts ≡ old.cuts + count_by is_cut given
   pub faults : new.faults ≡ old.faults + count_by is_failure given
-  pub honest : (t : Tree) (k : ℕ) → IsHonest old.blocks old.image t k → (end : State) × Life (limits_of old.blocks) (rests_at t k) ls given end × StandsFor old.blocks new.image end × (new.most_cuts ≡ new.cuts + one_if (is_cut_planned ls given))
+  pub planned : new.most_cuts ≡ new.cuts + one_if (is_cut_planned ls given)
+  pub honest : (t : Tree) (k : ℕ) → IsHonest old.blocks old.image t k → (end : State) × Life (limits_of old.blocks) (rests_at t k) ls given end × StandsFor old.blocks new.image end
   pub damaged : (damage : Damage) → IsDamage old.blocks old.image damage → AnswerDamage damage ls given × (new.image ≡ old.image)
+  pub unmountable : (damage : Damage) → IsUnmountable old.blocks old.image damage → RefusesTree ls given damage old.blocks old.image new.image
 
 -- the text of the answers to the first lines likewise, of which the last brings it above the limit
 pub record OverflowsOn (old : Flash) (ls : List Line) (text : List ℕ) : Type 0 where
@@ -146,15 +166,16 @@ pub record OverflowsOn (old : Flash) (ls : List Line) (text : List ℕ) : Type 0
   pub above : output_limit < length text
   pub honest : (t : Tree) (k : ℕ) → IsHonest old.blocks old.image t k → (end : State) × Life (limits_of old.blocks) (rests_at t k) (take count ls) (given ++ last ∷ []) end
   pub damaged : (damage : Damage) → IsDamage old.blocks old.image damage → AnswerDamage damage (take count ls) (given ++ last ∷ [])
+  pub unmountable : (damage : Damage) → IsUnmountable old.blocks old.image damage → AnswerDamage damage (take count ls) (given ++ last ∷ [])
 
 abbrev pub StopsOn : Flash → List Line → ServeFault → Type 0
 StopsOn old ls (TooLong text) = OverflowsOn old ls text
 StopsOn old ls Memory = Unit {0}
 
 -- lines were not all answered behind a text, which they brought above the limit, or memory was wanting
-abbrev pub StopsBehind : Limits → List Line → List ℕ → (State → Type 0) → Option Rested → ServeFault → Type 0
-StopsBehind limits ls old begins rested (TooLong text) = OverflowsFrom limits ls output_limit old text begins rested
-StopsBehind limits ls old begins rested Memory = Unit {0}
+abbrev pub StopsBehind : Limits → List Line → List ℕ → (State → Type 0) → (Damage → Type 0) → ServeFault → Type 0
+StopsBehind limits ls old begins refused (TooLong text) = OverflowsFrom limits ls output_limit old text begins refused
+StopsBehind limits ls old begins refused Memory = Unit {0}
 
 -- an answer brought the text above the limit, or memory was wanting
 abbrev pub StopsServing : Limits → List Line → ServeFault → Type 0

@@ -1,5 +1,5 @@
 -- How often power was cut and an operation failed, line by line.
-use Rattle.std.specs.Prelude.{ℕ, ◌+◌, ◌&&◌, ◌||◌, not, Bool, true, false, List, [], ◌∷◌}
+use Rattle.std.specs.Prelude.{ℕ, ◌≡◌, ◌+◌, ◌&&◌, ◌||◌, not, Bool, true, false, List, [], ◌∷◌}
 use Rattle.std.specs.List.{count_by, list_any}
 use Rattle.kv_device.specs.Machine.{Machine}
 use Rattle.kfs_path.specs.declared.call.Cause.TheVariants as causes
@@ -47,3 +47,25 @@ abbrev pub is_cut_planned : List Line → List Answer → Bool
 is_cut_planned [] given = false
 is_cut_planned (line ∷ ls) [] = false
 is_cut_planned (line ∷ ls) (answer ∷ given) = (plans_cut line && not (list_any is_cut given)) || is_cut_planned ls given
+
+-- ---- the cut that is planned for a device
+
+-- one cut is planned, or none
+abbrev pub HasCut : Machine → Bool → Type 0
+HasCut m planned = m.most_cuts ≡ m.cuts + one_if planned
+
+-- whether a cut is planned behind a line: the line plans one, or one was planned and the answer doesn't tell it
+abbrev pub is_still_planned : Bool → Line → Answer → Bool
+is_still_planned planned line answer = plans_cut line || (planned && not (is_cut answer))
+
+-- whether one is behind all of these lines
+abbrev pub is_planned_behind : Bool → List Line → List Answer → Bool
+is_planned_behind planned ls given = is_cut_planned ls given || (planned && not (list_any is_cut given))
+
+-- what is planned for a device that a line met
+abbrev pub PlansCut : Machine → Line → Answer → Machine → Type 0
+PlansCut old line answer new = (planned : Bool) → HasCut old planned → HasCut new (is_still_planned planned line answer)
+
+-- what is planned for one that all of these lines met
+abbrev pub PlanCuts : Machine → List Line → List Answer → Machine → Type 0
+PlanCuts old ls given new = (planned : Bool) → HasCut old planned → HasCut new (is_planned_behind planned ls given)

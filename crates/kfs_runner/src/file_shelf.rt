@@ -28,7 +28,7 @@ pub struct FileShelf<'a, R: Files> {
 impl<'a, R: Files + AllocGlobal> FileShelf<'a, R> {
     /// The file at a path. Where the path isn't UTF-8, each call fails.
     pub fn new(files: &'a R, path: &[u8]) -> Result<FileShelf<'a, R>, Memory>
-        ensures { IfOk result (λ s. ⟦<FileShelf<'a, R> as Shelf>⟧.faults s ≡ 0) }
+        ensures { IfOk result (λ s. (⟦<FileShelf<'a, R> as Shelf>⟧.side s).faults ≡ 0) }
     {
         let paths = match std::str::from_utf8(path) {
             Ok(path) => Some(paths_of(files.alloc(), path)?),
@@ -85,9 +85,7 @@ fn no_path() -> io::Error {
 }
 
 impl<R: Files + AllocGlobal> Shelf for FileShelf<'_, R> {
-    ghost held = { λ _. None };
-
-    ghost faults = { λ s. s.faults };
+    ghost side = { λ s. record { bytes = None; faults = s.faults } };
 
     fn take(&mut self, _: Global) -> Result<Vec<u8>, OutsideFault> {
         match self.read_file() {

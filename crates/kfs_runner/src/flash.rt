@@ -11,6 +11,7 @@ use crate::store::Store;
 use kfs_cache::Cached;
 use kfs_core::HostFault;
 use kssd_engine::{Ssd, operation_of, outcome_of};
+use kv_base::Memory;
 use kv_device::Device;
 use kv_nand::{MountFault, PlannedNand};
 use std::alloc::Global;
@@ -41,20 +42,21 @@ fn host_fault(fault: &MountFault) -> HostFault
 pub fn with_cache<N: PlannedNand + Drop>(
     alloc: Global,
     device: Ssd<N>,
-) -> Result<Cached<Ssd<N>>, Resting<N>>
+) -> Result<Cached<Ssd<N>>, (Resting<N>, Memory)>
     requires up { (⟦<Ssd<N> as Device>⟧.machine device).up ≡ true }
     requires idle { (⟦<Ssd<N> as Device>⟧.machine device).pending ≡ none_open }
     ensures ok { IfOk result (λ cached. ⟦<Cached<Ssd<N>> as Device>⟧.machine cached ≡ ⟦<Ssd<N> as Device>⟧.machine device) }
     ensures age { IfOk result (λ cached. ⟦<Cached<Ssd<N>> as Device>⟧.age cached ≡ ⟦<Ssd<N> as Device>⟧.age device) }
-    ensures err { IfErr result (λ store. ⟦<Resting<N> as Store>⟧.machine store ≡ down (⟦<Ssd<N> as Device>⟧.machine device)) }
-    ensures whole { IfErr result (λ store. whole_in (⟦<Resting<N> as Store>⟧.rested store)) }
-    ensures age_left { IfErr result (λ store. ⟦<Resting<N> as Store>⟧.age store ≤ ⟦<Ssd<N> as Device>⟧.age device) }
+    ensures err { IfErr result (λ e. ⟦<Resting<N> as Store>⟧.machine e.0 ≡ down (⟦<Ssd<N> as Device>⟧.machine device)) }
+    ensures whole { IfErr result (λ e. whole_in (⟦<Resting<N> as Store>⟧.rested e.0)) }
+    ensures age_left { IfErr result (λ e. ⟦<Resting<N> as Store>⟧.age e.0 ≤ ⟦<Ssd<N> as Device>⟧.age device) }
 {
     match Cached::new(alloc, device, CACHED_VALUES) {
         Ok(cached) => Ok(cached),
-        Err((device, _)) => Err(Resting {
-            nand: device.into_nand(),
-        }),
+        Err((device, fault)) => {
+            let nand = device.into_nand();
+            Err((Resting { nand }, fault))
+        }
     }
 }
 
@@ -98,7 +100,7 @@ impl<N: PlannedNand + Drop> Store for Resting<N> {
         match Ssd::mount(alloc, nand) {
             Ok(device) => match with_cache(alloc, device) {
                 Ok(cached) => Ok(cached),
-                Err(store) => Err((store, HostFault::NoMem)),
+                Err((store, Memory)) => Err((store, HostFault::NoMem)),
             },
             Err((nand, fault)) => Err((Resting { nand }, host_fault(&fault))),
         }

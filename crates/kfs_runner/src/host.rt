@@ -2,13 +2,14 @@
 ghost use Rattle.std.specs.Prelude.{◌≡◌, ◌≤◌, ◌<◌, ◌+◌, ◌-◌, ◌^◌, ℕ, Option, false, max};
 ghost use Rattle.kv_base.specs.declared.damage.Damage.{Damage};
 ghost use Rattle.kv_device.specs.Asked.{Asked};
+ghost use Rattle.kv_device.specs.Machine.{Machine};
 ghost use Rattle.kfs_model.specs.Tree.{Limits};
 ghost use Rattle.kfs_model.specs.Life.{State, Event};
 ghost use Rattle.kfs_script.specs.Script.{IsLine, is_format};
 ghost use Rattle.kfs_runner.specs.Asks.{LineAsks};
 ghost use Rattle.kfs_runner.specs.Refusals.{Rested, damaged_in, AnswersDamage};
 ghost use Rattle.kfs_runner.specs.MountPoints.{IsLow};
-ghost use Rattle.kfs_runner.specs.Strikes.{Strikes, struck};
+ghost use Rattle.kfs_runner.specs.Strikes.{strikes_of, struck, PlansCut};
 ghost use Rattle.kfs_runner.specs.Numbers.{line_age};
 
 use kfs_script::{Answer, Line};
@@ -37,8 +38,11 @@ pub trait Host: Drop {
     /// The greatest number that its device has written.
     ghost device_age: { Self → ℕ };
 
-    /// How often power was cut and an operation failed.
-    ghost strikes: { Self → Strikes };
+    /// The device that it has.
+    ghost machine: { Self → Machine };
+
+    /// The first damage of the objects that its device stores, while there is no session.
+    ghost tree_damage: { Self → Damage → Type 0 };
 
     /// What its device was asked for.
     ghost asked: { Self → Asked };
@@ -57,6 +61,8 @@ pub trait Host: Drop {
         ensures limits { limits result.0 ≡ limits self }
         ensures age { age result.0 ≤ max (age self) (2 ^ 62) + line_age }
         ensures device_age { device_age result.0 ≤ device_age self + line_age }
-        ensures strikes { strikes result.0 ≡ struck (strikes self) result.1 }
+        ensures unmountable { (damage : Damage) → tree_damage self damage → whole self → device_age self < 2 ^ 62 → AnswersDamage damage line.now result.1 × tree_damage result.0 damage × ((machine result.0).stable ≡ (machine self).stable) }
+        ensures strikes { strikes_of (machine result.0) ≡ struck (strikes_of (machine self)) result.1 }
+        ensures plans { PlansCut (machine self) line.now result.1 (machine result.0) }
         ensures asks { LineAsks line.now result.1 (asked self) (asked result.0) };
 }

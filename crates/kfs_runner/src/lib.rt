@@ -30,6 +30,7 @@ mod running;
 mod serving;
 mod standard;
 mod store;
+mod wanting;
 mod words;
 mod writing;
 

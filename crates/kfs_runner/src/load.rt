@@ -6,14 +6,14 @@ ghost use Rattle.kfs_load.specs.Coming.{first_live};
 ghost use Rattle.kfs_load.specs.Generator.{IsLoadRest};
 ghost use Rattle.kfs_runner.specs.MountPoints.{Known, IsPointWhole, mount_state, shows_point, point_limits, point_age, device_age};
 ghost use Rattle.kfs_runner.specs.Load.{numbers_text, load_text};
-ghost use Rattle.kfs_runner.specs.Counts.{Counts, CountsReply, plain_behind, IsCounted};
+ghost use Rattle.kfs_runner.specs.Counts.{Counts, CountsReply, IsUnplannedReply, IsUnplannedAnswer, plain_behind, IsCounted};
 
 use crate::host::Host;
 use crate::map_point::format_map;
 use crate::mount_point::MountPoint;
 use crate::store::Store;
 use kfs_load::make_script;
-use kfs_path::Reply;
+use kfs_path::{Cause, Reply};
 use kfs_plain::{PlainTree, Totals};
 use kfs_script::{Answer, Line, write_number};
 use kssd_layout::Layout;
@@ -34,11 +34,13 @@ pub struct Tally {
 impl Tally {
     // One reply more, unless the session went down.
     fn with_reply(self, reply: &Reply) -> Result<Tally, Memory>
-        requires { self.dones + self.errors < 2 ^ 32 }
+        requires few { self.dones + self.errors < 2 ^ 32 }
+        requires unplanned { IsUnplannedReply reply.now }
         ensures { IfOk result (CountsReply self reply.now) }
     {
         match reply {
-            Reply::Down(_) | Reply::Off => Err(Memory),
+            Reply::Down(Cause::NoMem) => Err(Memory),
+            Reply::Down(_) | Reply::Off => unreachable!(),
             Reply::Err(_) => Ok(Tally {
                 dones: self.dones,
                 errors: self.errors + 1,
@@ -54,7 +56,8 @@ impl Tally {
 
     // One answer more.
     fn with_answer(self, answer: &Answer) -> Result<Tally, Memory>
-        requires { self.dones + self.errors < 2 ^ 32 }
+        requires few { self.dones + self.errors < 2 ^ 32 }
+        requires unplanned { IsUnplannedAnswer answer.now }
         ensures { IfOk result (Counts self answer.now) }
     {
         match answer {
@@ -64,7 +67,7 @@ impl Tally {
                 errors: self.errors,
                 changes: *changes,
             }),
-            Answer::Refused(_) => Err(Memory),
+            Answer::Refused(_) => unreachable!(),
         }
     }
 }

@@ -5,6 +5,7 @@ ghost use Rattle.kfs_runner.specs.Numbers.{limits_of};
 
 use crate::host::Host;
 use crate::mount_point::MountPoint;
+use crate::wanting::device_memory;
 use kfs_core::format;
 use kssd_layout::Layout;
 use kv_base::Memory;
@@ -28,6 +29,6 @@ pub fn format_map(alloc: Global, blocks: u16) -> Result<MountPoint<MapDevice>, M
     let mut device = MapDevice::new(alloc, layout.max_keys, layout.max_pages)?;
     match format(alloc, &mut device) {
         Ok(()) => MountPoint::begin(alloc, device),
-        Err(_) => Err(Memory),
+        Err(fault) => Err(device_memory(fault)),
     }
 }

@@ -76,8 +76,8 @@ impl MemShelf {
     /// A shelf with these bytes. A put of more than `room` bytes fails, and so do the calls that
     /// `fails` numbers, from 1.
     pub fn new(alloc: Global, bytes: &[u8], room: usize, fails: &[u32]) -> Result<MemShelf, Memory>
-        ensures held { IfOk result (λ s. ⟦<MemShelf as Shelf>⟧.held s ≡ Some bytes.now) }
-        ensures faults { IfOk result (λ s. ⟦<MemShelf as Shelf>⟧.faults s ≡ 0) }
+        ensures held { IfOk result (λ s. (⟦<MemShelf as Shelf>⟧.side s).bytes ≡ Some bytes.now) }
+        ensures faults { IfOk result (λ s. (⟦<MemShelf as Shelf>⟧.side s).faults ≡ 0) }
         ensures shelf { IfOk result (λ s. shelf_of s ≡ record { bytes = bytes.now; room = room; plan = first_plan fails.now }) }
     {
         let mut held = Vec::with_capacity(alloc, room.max(bytes.len()))?;
@@ -91,7 +91,7 @@ impl MemShelf {
 
     /// The bytes that it holds.
     pub fn bytes(&self) -> &[u8]
-        ensures { ⟦<MemShelf as Shelf>⟧.held self.now ≡ Some result.now }
+        ensures { (⟦<MemShelf as Shelf>⟧.side self.now).bytes ≡ Some result.now }
     {
         self.held.as_slice()
     }
@@ -101,9 +101,7 @@ impl Shelf for MemShelf {
     ghost use Rattle.std.specs.Prelude.{true, false};
     ghost use Rattle.kfs_runner.specs.Memory.{shelf_of, is_struck, after_take, refuses_put, after_put};
 
-    ghost held = { λ s. Some s.held.items };
-
-    ghost faults = { λ s. s.failing.faults };
+    ghost side = { λ s. record { bytes = Some s.held.items; faults = s.failing.faults } };
 
     fn take(&mut self, alloc: Global) -> Result<Vec<u8>, OutsideFault>
         ensures ok { IfOk result (λ bytes. bytes.items ≡ (shelf_of self.old).bytes) }
@@ -146,8 +144,8 @@ impl MemSource {
 
     /// A source of these bytes. The calls that `fails` numbers, from 1, fail.
     pub fn new(alloc: Global, bytes: &[u8], fails: &[u32]) -> Result<MemSource, Memory>
-        ensures left { IfOk result (λ s. ⟦<MemSource as Source>⟧.left s ≡ Some bytes.now) }
-        ensures faults { IfOk result (λ s. ⟦<MemSource as Source>⟧.faults s ≡ 0) }
+        ensures left { IfOk result (λ s. (⟦<MemSource as Source>⟧.side s).bytes ≡ Some bytes.now) }
+        ensures faults { IfOk result (λ s. (⟦<MemSource as Source>⟧.side s).faults ≡ 0) }
         ensures source { IfOk result (λ s. source_of s ≡ record { left = bytes.now; plan = first_plan fails.now }) }
     {
         Ok(MemSource {
@@ -163,9 +161,7 @@ impl Source for MemSource {
     ghost use Rattle.kfs_runner.specs.Outside.{Gives};
     ghost use Rattle.kfs_runner.specs.Memory.{source_of, is_struck, count_read, after_read};
 
-    ghost left = { λ s. Some (drop s.at s.bytes.items) };
-
-    ghost faults = { λ s. s.failing.faults };
+    ghost side = { λ s. record { bytes = Some (drop s.at s.bytes.items); faults = s.failing.faults } };
 
     fn read(&mut self, into: &mut [u8]) -> Result<usize, OutsideFault>
         ensures count { IfOk result (λ n. n ≡ count_read (source_of self.old) (length into.old)) }
@@ -208,8 +204,8 @@ impl MemSink {
     /// An empty sink. A write takes at most the room that is left, and the calls that `fails`
     /// numbers, from 1, fail.
     pub fn new(alloc: Global, room: usize, fails: &[u32]) -> Result<MemSink, Memory>
-        ensures got { IfOk result (λ s. ⟦<MemSink as Sink>⟧.got s ≡ Some []) }
-        ensures faults { IfOk result (λ s. ⟦<MemSink as Sink>⟧.faults s ≡ 0) }
+        ensures got { IfOk result (λ s. (⟦<MemSink as Sink>⟧.side s).bytes ≡ Some []) }
+        ensures faults { IfOk result (λ s. (⟦<MemSink as Sink>⟧.side s).faults ≡ 0) }
         ensures sink { IfOk result (λ s. sink_of s ≡ record { got = []; room = room; plan = first_plan fails.now }) }
     {
         Ok(MemSink {
@@ -221,7 +217,7 @@ impl MemSink {
 
     /// The bytes that it got.
     pub fn bytes(&self) -> &[u8]
-        ensures { ⟦<MemSink as Sink>⟧.got self.now ≡ Some result.now }
+        ensures { (⟦<MemSink as Sink>⟧.side self.now).bytes ≡ Some result.now }
     {
         self.got.as_slice()
     }
@@ -231,9 +227,7 @@ impl Sink for MemSink {
     ghost use Rattle.std.specs.Prelude.{true, false};
     ghost use Rattle.kfs_runner.specs.Memory.{sink_of, is_struck, count_written, after_write};
 
-    ghost got = { λ s. Some s.got.items };
-
-    ghost faults = { λ s. s.failing.faults };
+    ghost side = { λ s. record { bytes = Some s.got.items; faults = s.failing.faults } };
 
     fn write(&mut self, bytes: &[u8]) -> Result<usize, OutsideFault>
         ensures count { IfOk result (λ n. n ≡ count_written (sink_of self.old) bytes.now) }

@@ -8,6 +8,7 @@ ghost use Rattle.kfs_runner.specs.Causes.{answer_of_host};
 
 use crate::host::Host;
 use crate::store::Store;
+use crate::wanting::host_memory;
 use kfs_core::HostFault;
 use kfs_path::{Call, Cause, Reply};
 use kfs_posix::Session;
@@ -37,7 +38,7 @@ fn answer_to(fault: &HostFault) -> Answer
 }
 
 impl<S: Store> MountPoint<S> {
-    ghost use Rattle.kfs_runner.specs.MountPoints.{Known, IsPointWhole, PointGoes, KeptBy, IsNew, mount_state, point_limits, point_age, device_age, shows_point, point_machine, point_strikes};
+    ghost use Rattle.kfs_runner.specs.MountPoints.{Known, IsPointWhole, PointGoes, KeptBy, IsNew, mount_state, point_limits, point_age, device_age, shows_point, point_machine};
     ghost use Rattle.kfs_runner.specs.Strikes.{strikes_of};
     ghost use Rattle.kfs_runner.specs.Asks.{SamePlans, LineAsks, point_asked};
     ghost use Rattle.kv_device.specs.Asked.{asks_cut, asks_fault};
@@ -56,11 +57,11 @@ impl<S: Store> MountPoint<S> {
         ensures limits { IfOk result (λ point. point_limits (mount_state S.machine S.age S.rested point) ≡ limits_in (S.Device.machine device)) }
         ensures age { IfOk result (λ point. point_age (mount_state S.machine S.age S.rested point) ≤ 2 ^ 62) }
         ensures device_age { IfOk result (λ point. device_age (mount_state S.machine S.age S.rested point) ≤ S.Device.age device + 2 ^ 38) }
-        ensures strikes { IfOk result (λ point. point_strikes (mount_state S.machine S.age S.rested point) ≡ strikes_of (S.Device.machine device)) }
+        ensures strikes { IfOk result (λ point. strikes_of (point_machine (mount_state S.machine S.age S.rested point)) ≡ strikes_of (S.Device.machine device)) }
     {
         match Session::mount(alloc, device) {
             Ok(session) => Ok(MountPoint::Mounted(session)),
-            Err(_) => Err(Memory),
+            Err((_, fault)) => Err(host_memory(fault)),
         }
     }
 
@@ -154,7 +155,7 @@ impl<S: Store> MountPoint<S> {
 }
 
 impl<S: Store> Host for MountPoint<S> {
-    ghost use Rattle.kfs_runner.specs.MountPoints.{Known, IsPointWhole, point_rested, mount_state, point_limits, point_age, device_age, point_strikes, shows_point};
+    ghost use Rattle.kfs_runner.specs.MountPoints.{Known, IsPointWhole, point_rested, mount_state, point_limits, point_age, device_age, point_machine, shows_point, tree_damage};
     ghost use Rattle.kfs_runner.specs.Asks.{point_asked};
 
     ghost known = { λ point. Known (mount_state S.machine S.age S.rested point) };
@@ -171,7 +172,9 @@ impl<S: Store> Host for MountPoint<S> {
 
     ghost device_age = { λ point. device_age (mount_state S.machine S.age S.rested point) };
 
-    ghost strikes = { λ point. point_strikes (mount_state S.machine S.age S.rested point) };
+    ghost machine = { λ point. point_machine (mount_state S.machine S.age S.rested point) };
+
+    ghost tree_damage = { λ point. tree_damage (mount_state S.machine S.age S.rested point) };
 
     ghost asked = { λ point. point_asked S.asked point };
 

@@ -54,10 +54,10 @@ impl From<OutsideFault> for Unread {
 
 /// The bytes of a source up to its end.
 pub fn read_to_end<S: Source>(alloc: Global, source: &mut S) -> Result<Text, Unread>
-    ensures whole { IfOk result (λ text. GivesAll (S.left source.old) text (S.left source.new)) }
+    ensures whole { IfOk result (λ text. GivesAll (S.side source.old).bytes text (S.side source.new).bytes) }
     ensures limit { IfOk result (λ text. length text ≤ SCRIPT_LIMIT) }
-    ensures steady { OnOk result (S.faults source.new ≡ S.faults source.old) }
-    ensures stops { IfErr result (λ cause. StopsReading (S.left source.old) (S.faults source.old) cause (S.left source.new) (S.faults source.new)) }
+    ensures steady { OnOk result ((S.side source.new).faults ≡ (S.side source.old).faults) }
+    ensures stops { IfErr result (λ cause. StopsReading (S.side source.old).bytes (S.side source.old).faults cause (S.side source.new).bytes (S.side source.new).faults) }
 {
     let mut text = Text::new(alloc, b"")?;
     let mut piece = zeros(alloc, PIECE)?;

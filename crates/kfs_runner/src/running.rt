@@ -6,7 +6,7 @@ ghost use Rattle.nand_mem.specs.MemNand.{mem};
 ghost use Rattle.kfs_runner.specs.declared.outside.OutsideFault.TheVariants.{Failed, Memory as NoMemory};
 ghost use Rattle.kfs_runner.specs.Outside.{HasRisen};
 ghost use Rattle.kfs_runner.specs.Serving.{formats, formats_first, IsUnplanned};
-ghost use Rattle.kfs_runner.specs.Ending.{ComesTo, LeavesAlone, side, sides, TaskComesTo, HoldsImage, IsTaken, IsLoadDue, IsScriptDue};
+ghost use Rattle.kfs_runner.specs.Ending.{ComesTo, LeavesAlone, sides, TaskComesTo, HoldsImage, IsTaken, IsLoadDue, IsScriptDue};
 
 use crate::ending::{Ending, NO_MEMORY, line_refused, refused};
 use crate::load::load_line;
@@ -15,7 +15,7 @@ use crate::reading::{Unread, read_to_end};
 use crate::serving::{ServeFault, serve};
 use crate::words::{Task, task_of};
 use kfs_script::{Line, Script, ScriptFault, read_script};
-use kv_base::Text;
+use kv_base::{Memory, Text};
 use nand_mem::{ImageFault, MemNand};
 use std::alloc::Global;
 
@@ -28,11 +28,11 @@ pub fn run_words<H: Shelf, S: Source>(
     script: &mut S,
 ) -> Ending
     ensures comes { ComesTo words.now.items
-        (sides (side (H.held shelf.old) (H.faults shelf.old)) (side (S.left script.old) (S.faults script.old)))
-        (sides (side (H.held shelf.new) (H.faults shelf.new)) (side (S.left script.new) (S.faults script.new))) result }
+        (sides (H.side shelf.old) (S.side script.old))
+        (sides (H.side shelf.new) (S.side script.new)) result }
     ensures alone { LeavesAlone words.now.items
-        (sides (side (H.held shelf.old) (H.faults shelf.old)) (side (S.left script.old) (S.faults script.old)))
-        (sides (side (H.held shelf.new) (H.faults shelf.new)) (side (S.left script.new) (S.faults script.new))) }
+        (sides (H.side shelf.old) (S.side script.old))
+        (sides (H.side shelf.new) (S.side script.new)) }
 {
     match task_of(words) {
         Task::Nothing => refused(alloc, 1, b"bad words\n"),
@@ -48,8 +48,8 @@ pub fn run_words<H: Shelf, S: Source>(
 // What the script of a source comes to.
 fn run_source<H: Shelf, S: Source>(alloc: Global, shelf: &mut H, script: &mut S) -> Ending
     ensures { TaskComesTo Task.Run
-        (sides (side (H.held shelf.old) (H.faults shelf.old)) (side (S.left script.old) (S.faults script.old)))
-        (sides (side (H.held shelf.new) (H.faults shelf.new)) (side (S.left script.new) (S.faults script.new))) result }
+        (sides (H.side shelf.old) (S.side script.old))
+        (sides (H.side shelf.new) (S.side script.new)) result }
 {
     match read_to_end(alloc, script) {
         Ok(text) => run_script(alloc, text.bytes(), shelf),
@@ -76,7 +76,7 @@ fn make_load(alloc: Global, seed: u64, count: u32, blocks: u16) -> Ending
 // What a script comes to.
 fn run_script<H: Shelf>(alloc: Global, bytes: &[u8], shelf: &mut H) -> Ending
     requires { length bytes.now ≤ 16777216 }
-    ensures { IsScriptDue (script_of bytes.now) (side (H.held shelf.old) (H.faults shelf.old)) (side (H.held shelf.new) (H.faults shelf.new)) result }
+    ensures { IsScriptDue (script_of bytes.now) (H.side shelf.old) (H.side shelf.new) result }
 {
     match read_script(alloc, bytes) {
         Ok(script) => run_lines(alloc, &script, shelf),
@@ -88,7 +88,7 @@ fn run_script<H: Shelf>(alloc: Global, bytes: &[u8], shelf: &mut H) -> Ending
 // What the lines of a script come to.
 fn run_lines<H: Shelf>(alloc: Global, script: &Script, shelf: &mut H) -> Ending
     requires few { length script.now ≤ 4194304 }
-    ensures { IsScriptDue (Ok script.now) (side (H.held shelf.old) (H.faults shelf.old)) (side (H.held shelf.new) (H.faults shelf.new)) result }
+    ensures { IsScriptDue (Ok script.now) (H.side shelf.old) (H.side shelf.new) result }
 {
     match script.lines().first() {
         Some(Line::Format(blocks)) => run_formatted(alloc, *blocks, script, shelf),
@@ -102,7 +102,7 @@ fn run_formatted<H: Shelf>(alloc: Global, blocks: u16, script: &Script, shelf: &
     requires most { blocks ≤ 2048 }
     requires few { length script.now ≤ 4194304 }
     requires formats { formats blocks script.now ≡ true }
-    ensures { IsScriptDue (Ok script.now) (side (H.held shelf.old) (H.faults shelf.old)) (side (H.held shelf.new) (H.faults shelf.new)) result }
+    ensures { IsScriptDue (Ok script.now) (H.side shelf.old) (H.side shelf.new) result }
 {
     let Ok(nand) = MemNand::fresh(alloc, blocks) else {
         return Ending::Quiet(NO_MEMORY);
@@ -122,7 +122,7 @@ fn run_formatted<H: Shelf>(alloc: Global, blocks: u16, script: &Script, shelf: &
 fn run_taken<H: Shelf>(alloc: Global, script: &Script, shelf: &mut H) -> Ending
     requires few { length script.now ≤ 4194304 }
     requires image { formats_first script.now ≡ false }
-    ensures { IsScriptDue (Ok script.now) (side (H.held shelf.old) (H.faults shelf.old)) (side (H.held shelf.new) (H.faults shelf.new)) result }
+    ensures { IsScriptDue (Ok script.now) (H.side shelf.old) (H.side shelf.new) result }
 {
     match shelf.take(alloc) {
         Ok(bytes) => run_image(alloc, bytes.as_slice(), script, shelf),
@@ -135,8 +135,8 @@ fn run_taken<H: Shelf>(alloc: Global, script: &Script, shelf: &mut H) -> Ending
 fn run_image<H: Shelf>(alloc: Global, bytes: &[u8], script: &Script, shelf: &mut H) -> Ending
     requires few { length script.now ≤ 4194304 }
     requires image { formats_first script.now ≡ false }
-    requires taken { IfSome (H.held shelf.old) (λ all. bytes.now ≡ all) }
-    ensures { IsScriptDue (Ok script.now) (side (H.held shelf.old) (H.faults shelf.old)) (side (H.held shelf.new) (H.faults shelf.new)) result }
+    requires taken { IfSome (H.side shelf.old).bytes (λ all. bytes.now ≡ all) }
+    ensures { IsScriptDue (Ok script.now) (H.side shelf.old) (H.side shelf.new) result }
 {
     match MemNand::from_image(alloc, bytes) {
         Ok(nand) => run_on(alloc, nand, script, shelf),
@@ -150,8 +150,8 @@ fn run_on<H: Shelf>(alloc: Global, nand: MemNand, script: &Script, shelf: &mut H
     requires few { length script.now ≤ 4194304 }
     requires image { formats_first script.now ≡ false }
     requires unplanned { IsUnplanned (mem nand).flash }
-    requires taken { IsTaken (side (H.held shelf.old) (H.faults shelf.old)) (mem nand).flash }
-    ensures { IsScriptDue (Ok script.now) (side (H.held shelf.old) (H.faults shelf.old)) (side (H.held shelf.new) (H.faults shelf.new)) result }
+    requires taken { IsTaken (H.side shelf.old) (mem nand).flash }
+    ensures { IsScriptDue (Ok script.now) (H.side shelf.old) (H.side shelf.new) result }
 {
     match serve(alloc, nand, script) {
         Ok(served) => match put_image(alloc, &served.nand, shelf) {
@@ -166,12 +166,12 @@ fn run_on<H: Shelf>(alloc: Global, nand: MemNand, script: &Script, shelf: &mut H
 
 // Puts the image of a flash on the shelf.
 fn put_image<H: Shelf>(alloc: Global, nand: &MemNand, shelf: &mut H) -> Result<(), OutsideFault>
-    ensures ok { OnOk result (HoldsImage (side (H.held shelf.old) (H.faults shelf.old)) (mem nand.now).flash.blocks (mem nand.now).flash.image (side (H.held shelf.new) (H.faults shelf.new))) }
-    ensures failed { IfErr result (λ fault. fault ≡ Failed → HasRisen (H.faults shelf.old) (H.faults shelf.new)) }
-    ensures unput { IfErr result (λ fault. fault ≡ NoMemory → (side (H.held shelf.new) (H.faults shelf.new)) ≡ (side (H.held shelf.old) (H.faults shelf.old))) }
+    ensures ok { OnOk result (HoldsImage (H.side shelf.old) (mem nand.now).flash.blocks (mem nand.now).flash.image (H.side shelf.new)) }
+    ensures failed { IfErr result (λ fault. fault ≡ Failed → HasRisen (H.side shelf.old).faults (H.side shelf.new).faults) }
+    ensures unput { IfErr result (λ fault. fault ≡ NoMemory → (H.side shelf.new) ≡ (H.side shelf.old)) }
 {
-    let Ok(image) = nand.to_image(alloc) else {
-        return Err(OutsideFault::Memory);
-    };
-    shelf.put(image.bytes())
+    match nand.to_image(alloc) {
+        Ok(image) => shelf.put(image.bytes()),
+        Err(Memory) => Err(OutsideFault::Memory),
+    }
 }

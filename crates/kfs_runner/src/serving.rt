@@ -5,6 +5,7 @@ ghost use Rattle.kfs_script.specs.Script.{IsLine, is_format};
 ghost use Rattle.kssd_engine.specs.Plans.{asked_by};
 ghost use Rattle.kfs_runner.specs.Numbers.{limits_of};
 ghost use Rattle.kfs_runner.specs.Asks.{IsLastPlanned};
+ghost use Rattle.kfs_runner.specs.Lines.{IsRefused};
 ghost use Rattle.kfs_runner.specs.Refusals.{damaged_in, whole_in};
 ghost use Rattle.kfs_runner.specs.Serving.{formats, formats_first, IsUnplanned, AreDone, IsServed, IsServedOn, StopsServing, StopsOn, StopsBehind};
 
@@ -157,12 +158,13 @@ fn answer_lines<S: Store>(
     requires lines { All IsLine lines.now }
     requires formats { All (λ line. is_format line ≡ false) lines.now }
     requires short { length before ≤ OUTPUT_LIMIT }
-    ensures ok { IfOk result (λ r. AreDone (⟦<MountPoint<S> as Host>⟧.limits point) lines.now before r.1 (λ s. ⟦<MountPoint<S> as Host>⟧.shows point s × ⟦<MountPoint<S> as Host>⟧.whole point × (⟦<MountPoint<S> as Host>⟧.device_age point ≤ 2 ^ 61)) (⟦<MountPoint<S> as Host>⟧.rested point) (⟦<MountPoint<S> as Host>⟧.strikes point) (S.machine r.0)) }
+    ensures ok { IfOk result (λ r. AreDone (⟦<MountPoint<S> as Host>⟧.limits point) lines.now before r.1 (λ s. ⟦<MountPoint<S> as Host>⟧.shows point s × ⟦<MountPoint<S> as Host>⟧.whole point × (⟦<MountPoint<S> as Host>⟧.device_age point ≤ 2 ^ 61)) (IsRefused (⟦<MountPoint<S> as Host>⟧.rested point) (⟦<MountPoint<S> as Host>⟧.whole point × (⟦<MountPoint<S> as Host>⟧.device_age point ≤ 2 ^ 61)) (⟦<MountPoint<S> as Host>⟧.tree_damage point)) (⟦<MountPoint<S> as Host>⟧.machine point) (S.machine r.0)) }
     ensures whole { IfOk result (λ r. ⟦<MountPoint<S> as Host>⟧.whole point → ⟦<MountPoint<S> as Host>⟧.device_age point ≤ 2 ^ 61 → whole_in (S.rested r.0)) }
     ensures stays { IfOk result (λ r. (damage : Damage) → damaged_in (⟦<MountPoint<S> as Host>⟧.rested point) damage → S.rested r.0 ≡ ⟦<MountPoint<S> as Host>⟧.rested point) }
     ensures age { IfOk result (λ r. ⟦<MountPoint<S> as Host>⟧.device_age point ≤ 2 ^ 61 → S.age r.0 < 2 ^ 62) }
+    ensures kept { IfOk result (λ r. (damage : Damage) → ⟦<MountPoint<S> as Host>⟧.tree_damage point damage → ⟦<MountPoint<S> as Host>⟧.whole point → ⟦<MountPoint<S> as Host>⟧.device_age point ≤ 2 ^ 61 → (S.machine r.0).stable ≡ (⟦<MountPoint<S> as Host>⟧.machine point).stable) }
     ensures planned { IfOk result (λ r. IsLastPlanned lines.now (S.asked r.0)) }
-    ensures stops { IfErr result (StopsBehind (⟦<MountPoint<S> as Host>⟧.limits point) lines.now before (λ s. ⟦<MountPoint<S> as Host>⟧.shows point s × ⟦<MountPoint<S> as Host>⟧.whole point × (⟦<MountPoint<S> as Host>⟧.device_age point ≤ 2 ^ 61)) (⟦<MountPoint<S> as Host>⟧.rested point)) }
+    ensures stops { IfErr result (StopsBehind (⟦<MountPoint<S> as Host>⟧.limits point) lines.now before (λ s. ⟦<MountPoint<S> as Host>⟧.shows point s × ⟦<MountPoint<S> as Host>⟧.whole point × (⟦<MountPoint<S> as Host>⟧.device_age point ≤ 2 ^ 61)) (IsRefused (⟦<MountPoint<S> as Host>⟧.rested point) (⟦<MountPoint<S> as Host>⟧.whole point × (⟦<MountPoint<S> as Host>⟧.device_age point ≤ 2 ^ 61)) (⟦<MountPoint<S> as Host>⟧.tree_damage point))) }
 {
     let mut text = before;
     match answer_all(alloc, point, lines, OUTPUT_LIMIT, &mut text) {

@@ -14,16 +14,14 @@ pub struct Incoming<R: Read> {
 impl<R: Read> Incoming<R> {
     /// The bytes of a reader.
     pub fn new(reader: R) -> Incoming<R>
-        ensures { ⟦<Incoming<R> as Source>⟧.faults result ≡ 0 }
+        ensures { (⟦<Incoming<R> as Source>⟧.side result).faults ≡ 0 }
     {
         Incoming { reader, faults: 0 }
     }
 }
 
 impl<R: Read> Source for Incoming<R> {
-    ghost left = { λ _. None };
-
-    ghost faults = { λ s. s.faults };
+    ghost side = { λ s. record { bytes = None; faults = s.faults } };
 
     fn read(&mut self, into: &mut [u8]) -> Result<usize, OutsideFault> {
         match self.reader.read(into) {
@@ -46,16 +44,14 @@ pub struct Outgoing<W: Write> {
 impl<W: Write> Outgoing<W> {
     /// A sink that hands its bytes to a writer.
     pub fn new(writer: W) -> Outgoing<W>
-        ensures { ⟦<Outgoing<W> as Sink>⟧.faults result ≡ 0 }
+        ensures { (⟦<Outgoing<W> as Sink>⟧.side result).faults ≡ 0 }
     {
         Outgoing { writer, faults: 0 }
     }
 }
 
 impl<W: Write> Sink for Outgoing<W> {
-    ghost got = { λ _. None };
-
-    ghost faults = { λ s. s.faults };
+    ghost side = { λ s. record { bytes = None; faults = s.faults } };
 
     fn write(&mut self, bytes: &[u8]) -> Result<usize, OutsideFault> {
         match self.writer.write(bytes) {

@@ -1,6 +1,6 @@
 // Writing what a run comes to.
 ghost use Rattle.std.specs.Prelude.{◌≡◌, OnOk, OnErr};
-ghost use Rattle.kfs_runner.specs.Ending.{side, IsWritten};
+ghost use Rattle.kfs_runner.specs.Ending.{IsWritten};
 ghost use Rattle.kfs_runner.specs.Outside.{HasRisen, Takes, TakesSome};
 
 use crate::ending::Ending;
@@ -8,10 +8,10 @@ use crate::outside::{OutsideFault, Sink};
 
 /// Writes all the bytes in their order. A sink that takes nothing has failed.
 pub fn write_whole<O: Sink>(out: &mut O, text: &[u8]) -> Result<(), OutsideFault>
-    ensures whole { OnOk result (Takes (O.got out.old) text.now (O.got out.new)) }
-    ensures steady { OnOk result (O.faults out.new ≡ O.faults out.old) }
-    ensures risen { OnErr result (HasRisen (O.faults out.old) (O.faults out.new)) }
-    ensures prefix { OnErr result (TakesSome (O.got out.old) text.now (O.got out.new)) }
+    ensures whole { OnOk result (Takes (O.side out.old).bytes text.now (O.side out.new).bytes) }
+    ensures steady { OnOk result ((O.side out.new).faults ≡ (O.side out.old).faults) }
+    ensures risen { OnErr result (HasRisen (O.side out.old).faults (O.side out.new).faults) }
+    ensures prefix { OnErr result (TakesSome (O.side out.old).bytes text.now (O.side out.new).bytes) }
 {
     let mut rest = text;
     while !rest.is_empty() {
@@ -26,7 +26,7 @@ pub fn write_whole<O: Sink>(out: &mut O, text: &[u8]) -> Result<(), OutsideFault
 
 /// Writes what there is to write, and answers the status: 5 where the sink failed.
 pub fn write_ending<O: Sink>(out: &mut O, ending: &Ending) -> u8
-    ensures { IsWritten ending.now (side (O.got out.old) (O.faults out.old)) (side (O.got out.new) (O.faults out.new)) result }
+    ensures { IsWritten ending.now (O.side out.old) (O.side out.new) result }
 {
     match ending {
         Ending::Quiet(status) => *status,

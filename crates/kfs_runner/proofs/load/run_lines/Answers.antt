@@ -11,7 +11,8 @@ use Rattle.kfs_runner.specs.declared.load.Tally.{Tally}
 use Rattle.kfs_runner.specs.MountPoints.{mount_state, point_limits, device_age}
 use Rattle.kfs_runner.proofs.Lives.{young_low}
 use Rattle.kfs_runner.specs.Counts.{counted, Counts, IsCounted}
-use Rattle.kfs_runner.proofs.LoadRuns.{IsAt, PointDoes, begins, goes_on, ends, load_has, lines_hold, no_formats, load_follows, load_few}
+use Rattle.kfs_laws.specs.Plain.{is_plain}
+use Rattle.kfs_runner.proofs.LoadRuns.{IsAt, PointDoes, begins, goes_on, ends, load_has, lines_hold, plain_lines, no_formats, load_follows, load_few, answers_unplanned}
 use Rattle.kfs_runner.proofs.load.run_lines.Goals as goal
 
 rest_is : (ls : List Line) (i : ℕ) (line : Line) → i < length ls → line ≡ get_or ls i line → drop i ls ≡ line ∷ drop (i + 1) ls
@@ -53,11 +54,25 @@ answer-next-requires-clause-format g c =
     let below : c.loop-line.line-index < length c.args.lines.now = omega arith in
     load_has (λ line. is_format line ≡ false) no_formats c.args.lines.now c.requires.load c.loop-line.line-index c.line-item.result below c.line-item.is
 
-pub with_answer-requires : goal.with_answer-requires
-with_answer-requires g c =
+pub with_answer-requires-clause-few : goal.with_answer-requires-clause-few
+with_answer-requires-clause-few g c =
     let below : c.loop-line.line-index < length c.args.lines.now = omega arith in
     let few = load_few c.args.lines.now c.requires.load in
     omega (arith, c.loop-line.invariant.few, few, below)
+
+pub with_answer-requires-clause-unplanned : goal.with_answer-requires-clause-unplanned
+with_answer-requires-clause-unplanned g c =
+    let at_point = mount_state g.S.Store.machine g.S.Store.age g.S.Store.rested in
+    let line = c.line-item.result in
+    let below : c.loop-line.line-index < length c.args.lines.now = omega arith in
+    let before = c.loop-line.invariant in
+    let at = before.at in
+    let few = load_few c.args.lines.now c.requires.load in
+    let many : at.changes + 2 < 2 ^ 62 = omega (arith, at.spent, few) in
+    let young : device_age (at_point c.loop-line.point) < 2 ^ 62 = omega (arith, before.device, few, below) in
+    let nothing = load_has (λ line. is_plain line ≡ true) plain_lines c.args.lines.now c.requires.load c.loop-line.line-index line below c.line-item.is in
+    let went = c.answer-next.ensures.goes_on at.state at.shows (young_low at.changes at.state many at.young) before.whole young in
+    answers_unplanned _ (at_point c.loop-line.point) _ _ line _ _ c.answer-next.result.1 at went.0 nothing went.1
 
 pub follow-requires : goal.follow-requires
 follow-requires g c =

@@ -5,10 +5,10 @@ use Rattle.kfs_runner.proofs.reading.read_to_end.Goals as goal
 
 pub loop-piece-init : goal.loop-piece-init
 loop-piece-init g c =
-    let P : List ℕ → Type 0 = λ text. Gives (g.S.Source.left c.args.source.now) text (g.S.Source.left c.args.source.now) in
+    let P : List ℕ → Type 0 = λ text. Gives (g.S.Source.side c.args.source.now).bytes text (g.S.Source.side c.args.source.now).bytes in
     let short : length c.in_ok-text.text ≡ 0 = ap length c.in_ok-text.ensures in
     record {
-      given = subst P (sym c.in_ok-text.ensures) (Gives-nothing (g.S.Source.left c.args.source.now));
+      given = subst P (sym c.in_ok-text.ensures) (Gives-nothing (g.S.Source.side c.args.source.now).bytes);
       limit = omega arith;
       steady = refl;
       size = omega arith;
@@ -42,7 +42,7 @@ loop-piece-preserved g c =
     let within : c.in_ok-n.n ≤ length c.read.new.into = omega (arith, c.in_ok-n.ensures.within) in
     let more : length c.append.new.self ≡ length c.loop-piece.text + c.in_ok-n.n = length_appended _ _ _ _ is within in
     let same : length c.bytes.result.now ≡ length c.loop-piece.text = ap length c.bytes.ensures in
-    let P : List ℕ → Type 0 = λ text. Gives (g.S.Source.left c.args.source.now) text (g.S.Source.left c.read.new.self) in
+    let P : List ℕ → Type 0 = λ text. Gives (g.S.Source.side c.args.source.now).bytes text (g.S.Source.side c.read.new.self).bytes in
     record {
       given = subst P (sym is) (Gives-more _ _ _ _ _ c.loop-piece.invariant.given c.in_ok-n.ensures.moved);
       limit = omega arith;

@@ -1,4 +1,5 @@
 use Rattle.std.proofs.Common.{◌≡◌, ◌∙◌, ap, sym, subst}
+use Rattle.kv_device.specs.Machine.{Machine}
 use Rattle.kfs_runner.specs.Refusals.{damaged_in}
 use Rattle.kfs_runner.specs.MountPoints.{mount_state}
 use Rattle.kfs_runner.proofs.Asking.{last_still}
@@ -22,6 +23,9 @@ returns-in-Ok-clause-stays g c = λ damage is.
     let same = c.in-Ok.ensures.stays damage is in
     let here = subst (λ r. damaged_in r damage) (sym same) is in
     kept_rested (at c.in-Ok.point) (g.S.Store.machine c.into_store.result) (g.S.Store.rested c.into_store.result) damage c.into_store.ensures.kept here ∙ same
+
+pub returns-in-Ok-clause-kept : goal.returns-in-Ok-clause-kept
+returns-in-Ok-clause-kept g c = λ damage is whole young. ap (λ (x : Machine). x.stable) c.into_store.ensures.machine ∙ c.in-Ok.ensures.kept damage is whole young
 
 pub returns-in-Ok-clause-planned : goal.returns-in-Ok-clause-planned
 returns-in-Ok-clause-planned g c = last_still c.args.lines.now _ _ c.into_store.ensures.asked c.in-Ok.ensures.planned
