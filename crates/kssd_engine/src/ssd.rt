@@ -34,8 +34,8 @@ pub struct Ssd<N: Nand> {
 impl<N: PlannedNand> Ssd<N> {
     /// Mounts the device on a flash of 256 to 2,048 blocks, whatever its image is. Where that is sound
     /// the device is up then with the objects of the image, and nothing is pending; and where the block
-    /// in which the newest anchor's log begins is Erased, the flash is only read, else the log is merged
-    /// with the runs into one run. At most 512 operations are done where level 0 has at most 3 runs, and
+    /// in which the newest anchor's log begins is Erased, the flash is only read, else the log is written as
+    /// a run of level 0, behind merges only where level 0 has no place. At most 512 operations are done where level 0 has at most 3 runs, and
     /// never more than the worst cost.
     ///
     /// # Errors
