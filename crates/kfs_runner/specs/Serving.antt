@@ -130,7 +130,7 @@ pub record IsUnmountable (blocks : ℕ) (image : Image) (damage : Damage) : Type
   pub damaged : IsTreeDamage (limits_of blocks) (heard (objects_in image)) damage
 
 -- the answers to lines on it are that damage's, and its objects stay
-pub record RefusesTree (ls : List Line) (given : List Answer) (damage : Damage) (blocks : ℕ) (old new : Image) : Type 0 where
+pub record AreTreeRefusals (ls : List Line) (given : List Answer) (damage : Damage) (blocks : ℕ) (old new : Image) : Type 0 where
   pub answers : AnswerDamage damage ls given
   pub sound : Sound blocks new
   pub stays : objects_in new ≡ objects_in old
@@ -153,7 +153,7 @@ pub record IsServedOn (ls : List Line) (text : List ℕ) (old new : Flash) : Typ
   pub planned : new.most_cuts ≡ new.cuts + one_if (is_cut_planned ls given)
   pub honest : (t : Tree) (k : ℕ) → IsHonest old.blocks old.image t k → (end : State) × Life (limits_of old.blocks) (rests_at t k) ls given end × StandsFor old.blocks new.image end
   pub damaged : (damage : Damage) → IsDamage old.blocks old.image damage → AnswerDamage damage ls given × (new.image ≡ old.image)
-  pub unmountable : (damage : Damage) → IsUnmountable old.blocks old.image damage → RefusesTree ls given damage old.blocks old.image new.image
+  pub unmountable : (damage : Damage) → IsUnmountable old.blocks old.image damage → AreTreeRefusals ls given damage old.blocks old.image new.image
 
 -- the text of the answers to the first lines likewise, of which the last brings it above the limit
 pub record OverflowsOn (old : Flash) (ls : List Line) (text : List ℕ) : Type 0 where
